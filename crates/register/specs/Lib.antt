@@ -1,0 +1,4 @@
+pub mod Rule
+pub mod Strings
+pub mod Rows
+pub mod Facts

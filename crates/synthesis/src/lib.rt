@@ -1,0 +1,3 @@
+// Massey's synthesis of a shortest register.
+mod progress;
+mod step;

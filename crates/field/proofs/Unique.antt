@@ -12,7 +12,7 @@ use Rattle.field.specs.Meaning.{Meaning, digit, add, multiply, Negates, Invert
 use Rattle.field.specs.Laws.{RingLaws, FieldLaws}
 use Rattle.field.specs.Operations.{the, negative, inverse}
 use Rattle.field.proofs.Digits.{digit-lt, digit-same}
-use Rattle.field.proofs.Totals.{positive, add-lt, mul-lt, add-comm, mul-comm, mul-assoc, mul-one, mul-zero, cancel}
+use Rattle.field.proofs.Totals.{positive, add-comm, add-zero, mul-comm, mul-assoc, mul-one, mul-zero, cancel}
 
 pub the-lt : (q : ℕ) (test : ℕ → Bool) → 0 < q → the q test < q
 unfolding the
@@ -52,6 +52,13 @@ module _ (m : Meaning) (laws : RingLaws m) where
       let e : add m a r ≡ 0 = ap (m .sum (digit m a)) (digit-same m r (n .within)) ∙ n .cancels in
       sym (the-is (m .order) (λ b. eqb (add m a b) 0) r (n .within) (eq-eqb (add m a r) 0 e)
       (λ x h t. cancel m laws a x r h (n .within) (eqb-true (add m a x) 0 t ∙ sym e)))
+
+  pub negative-zero : negative m 0 ≡ 0
+  unfolding negative
+  negative-zero =
+      let h = positive m laws in
+      the-is (m .order) (λ b. eqb (add m 0 b) 0) 0 h (eq-eqb (add m 0 0) 0 (add-zero m laws 0 h))
+      (λ x l t. sym (add-comm m laws 0 x ∙ add-zero m laws x l) ∙ eqb-true (add m 0 x) 0 t)
 
 module _ (m : Meaning) (laws : FieldLaws m) where
   -- the inverse is the only one: x = x · (a · r) = (a · x) · r = r

@@ -1,13 +1,11 @@
 // The length of a shortest register for a string, found in cells that are lent.
-ghost use mathlib.Core.Bool.{true};
 ghost use mathlib.Core.Path.{_≡_};
-ghost use Prim.Native.Nat.{_<_, _≤_};
+ghost use Prim.Native.Nat.{_≤_};
 ghost use lib.ListN.{length};
-ghost use Rattle.std.specs.Results.{isOk};
 ghost use Rattle.std.specs.declared.result.Result.the-variants.{Ok, Err};
 ghost use Rattle.field.specs.Meaning.{Meaning};
-ghost use Rattle.register.specs.Strings.{Digits};
-ghost use Rattle.synthesis.specs.Scratch.{scratchCells, cleared};
+ghost use Rattle.field.specs.Refusals.{refusalOf};
+ghost use Rattle.synthesis.specs.Scratch.{scratchCells, cleared, stepsRefusal};
 ghost use Rattle.massey.specs.Steps.{steps};
 use crate::progress::MOST_DIGITS;
 use crate::run::clear;
@@ -21,6 +19,7 @@ use register::are_digits;
 pub struct Shortest {
     pub length: usize,
     pub count: u32,
+    ghost few: { length ≤ 256 },
 }
 
 // The cells that the steps over this many digits need.
@@ -60,10 +59,7 @@ fn find_in_front<F: Field>(field: &F, digits: &[u16], scratch: &mut [u16], cells
 
 /// Runs the steps over the digits, with their rows in the scratch, of which the cells used end as 0.
 pub fn find_shortest<F: Field>(field: &F, digits: &[u16], scratch: &mut [u16]) -> Result<Shortest, Refusal>
-    ensures many { λ r. ⌜ (256 < length (now (digits .entry)) → r ≡ Err Refusal.TooManyDigits) ⌝ }
-    ensures none { λ r. ⌜ (length (now (digits .entry)) ≤ 256 → (Digits (means (now (field .entry))) (now (digits .entry)) → ⊥) → r ≡ Err Refusal.NotADigit) ⌝ }
-    ensures few { λ r. ⌜ (length (now (digits .entry)) ≤ 256 → Digits (means (now (field .entry))) (now (digits .entry)) → length (now (scratch .entry)) < scratchCells (length (now (digits .entry))) → r ≡ Err Refusal.TooFewCells) ⌝ }
-    ensures accepts { λ r. ⌜ (length (now (digits .entry)) ≤ 256 → Digits (means (now (field .entry))) (now (digits .entry)) → scratchCells (length (now (digits .entry))) ≤ length (now (scratch .entry)) → isOk r ≡ true) ⌝ }
+    ensures refused { λ r. ⌜ refusalOf r ≡ stepsRefusal (means (now (field .entry))) (now (digits .entry)) (length (now (scratch .entry))) ⌝ }
     ensures found { λ r. ⌜ elim r [ Ok s ↦ (made (now (field .entry)) → (s .length ≡ steps (means (now (field .entry))) (now (digits .entry)) .l) × (s .count ≡ steps (means (now (field .entry))) (now (digits .entry)) .count)) | Err e ↦ Unit {0} ] ⌝ }
     ensures scratch { λ r. ⌜ elim r [ Ok s ↦ now (scratch .exit) ≡ cleared (scratchCells (length (now (digits .entry)))) (now (scratch .entry)) | Err e ↦ now (scratch .exit) ≡ now (scratch .entry) ] ⌝ }
 {

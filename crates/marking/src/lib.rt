@@ -1,0 +1,11 @@
+// Marks for claimed registers.
+mod marks;
+mod verdict;
+pub use marks::MOST_TAPS;
+pub use marks::mark_claim;
+pub use verdict::Mark;
+pub use verdict::MarkDebug;
+pub use verdict::MarkPartialEq;
+pub use verdict::Verdict;
+pub use verdict::VerdictDebug;
+pub use verdict::VerdictPartialEq;

@@ -2,6 +2,7 @@
 mod arithmetic;
 mod refusal;
 mod traits;
+
 pub use arithmetic::divide;
 pub use arithmetic::is_digit;
 pub use arithmetic::subtract;

@@ -1,6 +1,7 @@
 // Marks for claimed registers.
 mod marks;
 mod verdict;
+
 pub use marks::MOST_TAPS;
 pub use marks::mark_claim;
 pub use verdict::Mark;

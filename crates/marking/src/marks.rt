@@ -34,7 +34,12 @@ fn judge(broken: Option<usize>, claimed: usize, shortest: usize, digits: usize) 
 }
 
 /// Marks the claim of these taps on the digits. The rows of the steps lie in the scratch, of which the cells used end as 0.
-pub fn mark_claim<F: Field>(field: &F, digits: &[u16], claim: &[u16], scratch: &mut [u16]) -> Result<Mark, Refusal>
+pub fn mark_claim<F: Field>(
+    field: &F,
+    digits: &[u16],
+    claim: &[u16],
+    scratch: &mut [u16],
+) -> Result<Mark, Refusal>
     ensures refused { λ r. ⌜ refusalOf r ≡ markRefusal (means (now (field .entry))) (now (digits .entry)) (now (claim .entry)) (length (now (scratch .entry))) ⌝ }
     ensures marked { λ r. ⌜ elim r [ Ok k ↦ (made (now (field .entry)) → Marked (means (now (field .entry))) (now (digits .entry)) (now (claim .entry)) k) | Err e ↦ Unit {0} ] ⌝ }
     ensures scratch { λ r. ⌜ elim r [ Ok k ↦ now (scratch .exit) ≡ cleared (scratchCells (length (now (digits .entry)))) (now (scratch .entry)) | Err e ↦ now (scratch .exit) ≡ now (scratch .entry) ] ⌝ }
@@ -48,5 +53,9 @@ pub fn mark_claim<F: Field>(field: &F, digits: &[u16], claim: &[u16], scratch: &
     let broken = generates(field, claim, digits)?;
     let shortest = find_shortest(field, digits, scratch)?;
     let verdict = judge(broken, claim.len(), shortest.length, digits.len());
-    Ok(Mark { verdict, length: shortest.length, count: shortest.count })
+    Ok(Mark {
+        verdict,
+        length: shortest.length,
+        count: shortest.count,
+    })
 }

@@ -4,11 +4,9 @@ ghost use Rattle.register.specs.Facts.{FeedbackSteps, CorrectionSteps};
 // A sum, term by term.
 pub(crate) fn feedback_steps()
     ensures { λ _. ⌜ FeedbackSteps ⌝ }
-{
-}
+{}
 
 // A row, cell by cell.
 pub(crate) fn correction_steps()
     ensures { λ _. ⌜ CorrectionSteps ⌝ }
-{
-}
+{}

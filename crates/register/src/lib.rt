@@ -2,6 +2,7 @@
 mod facts;
 mod rows;
 mod rule;
+
 pub use rows::subtract_shifted;
 pub use rule::are_digits;
 pub use rule::feedback;

@@ -40,7 +40,10 @@ fn find_in<F: Field>(field: &F, digits: &[u16], rows: &mut [u16]) -> Shortest
     let (c, rest) = rows.split_at_mut(row);
     let (b, t) = rest.split_at_mut(row);
     let p = run(field, digits, c, b, t);
-    Shortest { length: p.length, count: p.count }
+    Shortest {
+        length: p.length,
+        count: p.count,
+    }
 }
 
 // The same in the first cells of the scratch, which end as 0.
@@ -58,7 +61,11 @@ fn find_in_front<F: Field>(field: &F, digits: &[u16], scratch: &mut [u16], cells
 }
 
 /// Runs the steps over the digits, with their rows in the scratch, of which the cells used end as 0.
-pub fn find_shortest<F: Field>(field: &F, digits: &[u16], scratch: &mut [u16]) -> Result<Shortest, Refusal>
+pub fn find_shortest<F: Field>(
+    field: &F,
+    digits: &[u16],
+    scratch: &mut [u16],
+) -> Result<Shortest, Refusal>
     ensures refused { λ r. ⌜ refusalOf r ≡ stepsRefusal (means (now (field .entry))) (now (digits .entry)) (length (now (scratch .entry))) ⌝ }
     ensures found { λ r. ⌜ elim r [ Ok s ↦ (made (now (field .entry)) → (s .length ≡ steps (means (now (field .entry))) (now (digits .entry)) .l) × (s .count ≡ steps (means (now (field .entry))) (now (digits .entry)) .count)) | Err e ↦ Unit {0} ] ⌝ }
     ensures scratch { λ r. ⌜ elim r [ Ok s ↦ now (scratch .exit) ≡ cleared (scratchCells (length (now (digits .entry)))) (now (scratch .entry)) | Err e ↦ now (scratch .exit) ≡ now (scratch .entry) ] ⌝ }

@@ -1,10 +1,11 @@
 // Massey's synthesis of a shortest register.
+mod find;
 mod progress;
 mod run;
-mod find;
 mod step;
-pub use progress::MOST_DIGITS;
+
 pub use find::Shortest;
 pub use find::ShortestDebug;
 pub use find::ShortestPartialEq;
 pub use find::find_shortest;
+pub use progress::MOST_DIGITS;

@@ -1,0 +1,39 @@
+//! A number of the sheet.
+ghost use mathlib.Core.Path.{_≡_};
+ghost use Prim.Native.Nat.{_≤_};
+ghost use lib.ListN.{length};
+ghost use Rattle.sheet.specs.Numeral.{figuresAfter, misshapen, numeral};
+
+fn is_misshapen(word: &[u8]) -> bool
+    ensures { λ r. ⌜ r ≡ misshapen (now (word .entry)) ⌝ }
+{
+    word.len() == 0 || word.len() > 5 || (word[0] == b'0' && word.len() > 1)
+}
+
+fn figures(word: &[u8]) -> Option<u16>
+    requires { ⌜ length (now word) ≤ 5 ⌝ }
+    ensures { λ r. ⌜ r ≡ figuresAfter 0 (now (word .entry)) ⌝ }
+{
+    let mut value: u32 = 0;
+    for b in word {
+        if !b.is_ascii_digit() {
+            return None;
+        }
+        value = value * 10 + (*b - b'0') as u32;
+    }
+    if value > 65535 {
+        None
+    } else {
+        Some(value as u16)
+    }
+}
+
+pub(crate) fn number_of(word: &[u8]) -> Option<u16>
+    ensures { λ r. ⌜ r ≡ numeral (now (word .entry)) ⌝ }
+{
+    if is_misshapen(word) {
+        None
+    } else {
+        figures(word)
+    }
+}

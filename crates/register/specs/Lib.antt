@@ -1,3 +1,4 @@
+pub mod Registers
 pub mod Rule
 pub mod Strings
 pub mod Rows

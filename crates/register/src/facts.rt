@@ -1,5 +1,5 @@
 // Facts with no code: a caller knows them from the call on.
-ghost use Rattle.register.specs.Facts.{FeedbackSteps, CorrectionSteps};
+ghost use Rattle.register.specs.Facts.{FeedbackSteps, CorrectionSteps, PaddingSteps};
 
 // A sum, term by term.
 pub(crate) fn feedback_steps()
@@ -10,3 +10,9 @@ pub(crate) fn feedback_steps()
 pub(crate) fn correction_steps()
     ensures { λ _. ⌜ CorrectionSteps ⌝ }
 {}
+
+// Cells that are filled with taps.
+pub(crate) fn padding_steps()
+    ensures { λ _. ⌜ PaddingSteps ⌝ }
+{
+}

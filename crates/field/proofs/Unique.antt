@@ -60,6 +60,21 @@ module _ (m : Meaning) (laws : RingLaws m) where
       the-is (m .order) (λ b. eqb (add m 0 b) 0) 0 h (eq-eqb (add m 0 0) 0 (add-zero m laws 0 h))
       (λ x l t. sym (add-comm m laws 0 x ∙ add-zero m laws x l) ∙ eqb-true (add m 0 x) 0 t)
 
+  pub negative-lt : (a : ℕ) → negative m a < m .order
+  unfolding negative
+  negative-lt a = the-lt (m .order) _ (positive m laws)
+
+  pub add-negative : (a : ℕ) → add m a (negative m a) ≡ 0
+  unfolding add
+  add-negative a =
+      let n = laws .negative (digit m a) (digit-lt m a (positive m laws)) in
+      ap (add m a) (sym (negates-is a (n .0) (record { within = n .1; cancels = n .2 })))
+      ∙ ap (m .sum (digit m a)) (digit-same m (n .0) (n .1)) ∙ n .2
+
+  -- taking e times 0 away leaves a digit as it is
+  pub subtract-none : (a e : ℕ) → a < m .order → add m a (negative m (multiply m e 0)) ≡ a
+  subtract-none a e h = ap (λ x. add m a (negative m x)) (mul-zero m laws e) ∙ ap (add m a) negative-zero ∙ add-zero m laws a h
+
 module _ (m : Meaning) (laws : FieldLaws m) where
   -- the inverse is the only one: x = x · (a · r) = (a · x) · r = r
   only-inverse : (a r x : ℕ) → r < m .order → x < m .order → multiply m a r ≡ 1 → multiply m a x ≡ 1 → x ≡ r

@@ -26,7 +26,7 @@ pub fn divide<F: Field>(field: &F, a: u16, b: u16) -> u16
 }
 
 // The laws leave one negative.
-fn negated<F: Field>(field: &F, a: u16) -> u16
+pub fn negated<F: Field>(field: &F, a: u16) -> u16
     ensures { λ r. ⌜ (made (now (field .entry)) → r ≡ negative (means (now (field .entry))) a) ⌝ }
 {
     field.negate(a)

@@ -5,6 +5,7 @@ mod traits;
 
 pub use arithmetic::divide;
 pub use arithmetic::is_digit;
+pub use arithmetic::negated;
 pub use arithmetic::subtract;
 pub use refusal::Refusal;
 pub use refusal::RefusalDebug;

@@ -10,28 +10,13 @@ use Rattle.field.specs.Laws.{RingLaws, FieldLaws}
 use Rattle.field.specs.Operations.{Operations, negative, inverse}
 use Rattle.field.proofs.Digits.{digit-lt, digit-same}
 use Rattle.field.proofs.Totals as totals
-use Rattle.field.proofs.Unique.{the-lt, negates-is, negative-zero, inverts-some}
+use Rattle.field.proofs.Unique.{the-lt, negative-lt, add-negative, inverts-some}
 use Rattle.massey.proofs.Fields.{IsField}
 
 module _ (m : Meaning) (laws : RingLaws m) where
-  pub negative-lt : (a : ℕ) → negative m a < m .order
-  unfolding negative
-  negative-lt a = the-lt (m .order) _ (totals.positive m laws)
-
   pub inverse-lt : (a : ℕ) → inverse m a < m .order
   unfolding inverse
   inverse-lt a = the-lt (m .order) _ (totals.positive m laws)
-
-  pub add-negative : (a : ℕ) → add m a (negative m a) ≡ 0
-  unfolding add
-  add-negative a =
-      let n = laws .negative (digit m a) (digit-lt m a (totals.positive m laws)) in
-      ap (add m a) (sym (negates-is m laws a (n .0) (record { within = n .1; cancels = n .2 })))
-      ∙ ap (m .sum (digit m a)) (digit-same m (n .0) (n .1)) ∙ n .2
-
-  -- taking e times 0 away leaves a digit as it is
-  pub subtract-none : (a e : ℕ) → a < m .order → add m a (negative m (multiply m e 0)) ≡ a
-  subtract-none a e h = ap (λ x. add m a (negative m x)) (totals.mul-zero m laws e) ∙ ap (add m a) (negative-zero m laws) ∙ totals.add-zero m laws a h
 
   -- the operations, on digits alone
   abbrev pub elements : Operations (Fin (m .order))
@@ -40,7 +25,7 @@ module _ (m : Meaning) (laws : RingLaws m) where
     𝟙 = (1, laws .least);
     _⊕_ = λ a b. (add m (a .0) (b .0), totals.add-lt m laws (a .0) (b .0));
     _⊗_ = λ a b. (multiply m (a .0) (b .0), totals.mul-lt m laws (a .0) (b .0));
-    ⊖ = λ a. (negative m (a .0), negative-lt (a .0));
+    ⊖ = λ a. (negative m (a .0), negative-lt m laws (a .0));
     inv = λ a. (inverse m (a .0), inverse-lt (a .0));
     is-zero = λ a. eqb (a .0) 0;
   }

@@ -14,7 +14,7 @@ use Rattle.register.specs.Strings.{at, Digits, discrepancyAt}
 use Rattle.register.proofs.Sums.{feedback-cong}
 use Rattle.massey.specs.Steps.{State, tapsOf, steps}
 use Rattle.massey.specs.Theorems.{registerOf, expected, Expected}
-use Rattle.massey.proofs.Elements.{negative-lt, add-negative}
+use Rattle.field.proofs.Unique.{negative-lt, add-negative}
 use Rattle.massey.proofs.Registers.{register-discrepancy, generates-push}
 use Rattle.massey.proofs.Strings.{shortest, bounds}
 

@@ -11,7 +11,7 @@ use Rattle.field.specs.Operations.{Operations}
 use Rattle.register.specs.Rows.{shifted, corrected}
 use Rattle.massey.specs.Steps.{State, unit, begin, next-row, advance, next-discrepancy, step, run}
 use Rattle.massey.proofs.Fields.{IsField}
-use Rattle.massey.proofs.Shifts.{below-or-after, shifted-below, shifted-at}
+use Rattle.register.proofs.Shifts.{below-or-after, shifted-below, shifted-at}
 use Rattle.massey.proofs.Series.{product}
 use Rattle.massey.proofs.Rows.{IsRow, Vanishes, row-discrepancy, massey}
 use Rattle.massey.proofs.Corrections.{corrected-same, quotient-cancels, product-corrected}

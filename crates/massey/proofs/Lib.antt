@@ -3,7 +3,6 @@ pub mod Step
 pub mod Prefix
 pub mod Count
 pub mod Fields
-pub mod Shifts
 pub mod Series
 pub mod Rows
 pub mod Corrections

@@ -7,7 +7,7 @@ use Rattle.field.specs.Operations.{Operations}
 use Rattle.register.specs.Rows.{shifted}
 use Rattle.massey.specs.Steps.{State}
 use Rattle.massey.proofs.Fields.{IsField, zero-add, cancel}
-use Rattle.massey.proofs.Shifts.{shifted-below, shifted-at}
+use Rattle.register.proofs.Shifts.{shifted-below, shifted-at}
 use Rattle.massey.proofs.Series.{product-add, product-shifted}
 use Rattle.massey.proofs.Rows.{IsRow, Vanishes}
 use Rattle.massey.proofs.Invariant.{Invariant, shifted-first, shifted-past, shifted-vanishes}

@@ -9,7 +9,7 @@ use native.Mathlib.Omega.{arith}
 use Rattle.field.specs.Operations.{Operations}
 use Rattle.register.specs.Rule.{Sum, feedback, discrepancy, Rule}
 use Rattle.massey.proofs.Fields.{IsField, zero-mul, mul-zero, one-mul}
-use Rattle.massey.proofs.Shifts.{below-or-after}
+use Rattle.register.proofs.Shifts.{below-or-after}
 use Rattle.massey.proofs.Series.{tail, product, first, first-past, first-below, product-sum, product-none, product-head, product-swap}
 
 pub record IsRow {K : Type 0} (o : Operations K) (l : ℕ) (C : ℕ → K) : Type 0 where

@@ -9,7 +9,7 @@ use Rattle.field.specs.Operations.{Operations}
 use Rattle.register.specs.Rows.{shifted}
 use Rattle.massey.specs.Steps.{State}
 use Rattle.massey.proofs.Fields.{IsField, mul-zero, negative-zero, same-from, same-difference}
-use Rattle.massey.proofs.Shifts.{below-or-after, shifted-below, shifted-at}
+use Rattle.register.proofs.Shifts.{below-or-after, shifted-below, shifted-at}
 use Rattle.massey.proofs.Series.{product, product-add, product-negative, product-scale, product-shifted}
 use Rattle.massey.proofs.Rows.{IsRow, Vanishes, massey}
 use Rattle.massey.proofs.Invariant.{Invariant}

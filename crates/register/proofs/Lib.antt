@@ -1,3 +1,6 @@
 pub mod Cells
+pub mod Corrections
+pub mod Regenerates
+pub mod Shifts
 pub mod Sums
 pub mod Tests

@@ -1,3 +1,4 @@
+pub mod Regeneration
 pub mod Registers
 pub mod Rule
 pub mod Strings

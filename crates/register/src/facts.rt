@@ -1,5 +1,5 @@
 // Facts with no code: a caller knows them from the call on.
-ghost use Rattle.register.specs.Facts.{FeedbackSteps, CorrectionSteps, PaddingSteps};
+ghost use Rattle.register.specs.Facts.{FeedbackSteps, CorrectionSteps, PaddingSteps, ExtensionSteps};
 
 // A sum, term by term.
 pub(crate) fn feedback_steps()
@@ -14,5 +14,11 @@ pub(crate) fn correction_steps()
 // Cells that are filled with taps.
 pub(crate) fn padding_steps()
     ensures { λ _. ⌜ PaddingSteps ⌝ }
+{
+}
+
+// A string, digit by digit.
+pub(crate) fn extension_steps()
+    ensures { λ _. ⌜ ExtensionSteps ⌝ }
 {
 }

@@ -2,8 +2,8 @@
 mod marks;
 mod verdict;
 
-pub use marks::MOST_TAPS;
 pub use marks::mark_claim;
+pub use marks::one_verdict;
 pub use verdict::Mark;
 pub use verdict::MarkDebug;
 pub use verdict::MarkPartialEq;

@@ -4,6 +4,7 @@
 --   otherOf m st          the register of the row C + x^j · B, with as many taps
 --   expected m w          the digit that the register of the steps over w gives next: the negative of its feedback
 --   Shortest m w taps     a register that generates w, as no shorter one does
+--   ShortestLength m w l  the length of such a register
 --   Another m w taps      some other register of the same length generates w
 --   IsOther m w st        otherOf generates w, and first differs from registerOf at tap j
 --   Expected m w x        with x after w, and with no other digit, the register of the steps over w leaves no discrepancy
@@ -36,6 +37,11 @@ pub record Shortest (m : Meaning) (w taps : List ℕ) : Type 0 where
   pub digits : Digits m taps
   pub generates : Generates m taps w
   pub least : (t : List ℕ) → Digits m t → Generates m t w → length taps ≤ length t
+
+pub record ShortestLength (m : Meaning) (w : List ℕ) (l : ℕ) : Type 0 where
+  pub taps : List ℕ
+  pub shortest : Shortest m w taps
+  pub long : length taps ≡ l
 
 pub record Another (m : Meaning) (w taps : List ℕ) : Type 0 where
   pub other : List ℕ

@@ -4,12 +4,16 @@
 --   Marked m w claim k      the mark k has such a verdict, and the length and the count of Massey's steps over w
 --   Decided ..              the verdict on a claim that generates w, by lengths
 --   OneVerdict              no claim has two verdicts
---   markRefusal m w claim cells   why marking in that many cells is refused
+--   claimRefusal m w claim  why a claim is refused: too many taps, too many digits, a tap or a digit that is none
+--   markRefusal m w claim cells   why marking in that many cells is refused: that, or too few cells
+--   beats v u               a claim with the verdict v counts before one with the verdict u
+--   Better m w first second taps   the taps of the claim that counts: the second where its verdict beats the first's, else the first
+--   betterRefusal ..        why this is refused: as marking refuses the first claim, then the second
 use mathlib.Core.Path.{_≡_}
-use mathlib.Core.Bool.{cond, _&&_}
+use mathlib.Core.Bool.{Bool, true, false, cond, _&&_}
 use mathlib.Core.List.{List}
 use Prim.Native.Nat.{ℕ, _+_, _*_, _≤_, _<_}
-use lib.Dec.{ltb}
+use lib.Dec.{leb, ltb}
 use lib.ListN.{length}
 use Rattle.std.specs.declared.option.Option.{Option}
 use Rattle.std.specs.declared.option.Option.the-variants.{Some, None}
@@ -46,8 +50,44 @@ Decided claimed shortest digits Several = (claimed ≤ shortest) × (digits < 2 
 abbrev pub OneVerdict : Type 0
 OneVerdict = (m : Meaning) (w claim : List ℕ) (v u : Verdict) → Judged m w claim v → Judged m w claim u → v ≡ u
 
-abbrev pub markRefusal : Meaning → List ℕ → List ℕ → ℕ → Option Refusal
-markRefusal m w claim cells =
+abbrev pub claimRefusal : Meaning → List ℕ → List ℕ → Option Refusal
+claimRefusal m w claim =
     cond (ltb 256 (length claim)) (Some TooManyTaps)
-    (cond (ltb 256 (length w)) (Some TooManyDigits)
-    (cond (areDigits m claim && areDigits m w) (cond (ltb cells (scratchCells (length w))) (Some TooFewCells) None) (Some NotADigit)))
+    (cond (ltb 256 (length w)) (Some TooManyDigits) (cond (areDigits m claim && areDigits m w) None (Some NotADigit)))
+
+abbrev orElse : Option Refusal → Option Refusal → Option Refusal
+orElse None e = e
+orElse (Some d) e = Some d
+
+abbrev pub markRefusal : Meaning → List ℕ → List ℕ → ℕ → Option Refusal
+markRefusal m w claim cells = orElse (claimRefusal m w claim) (cond (leb (scratchCells (length w)) cells) None (Some TooFewCells))
+
+abbrev generating : Verdict → Bool
+generating (Wrong place) = false
+generating (Long excess) = true
+generating Only = true
+generating Several = true
+
+-- a shortest register, or one with a smaller excess
+abbrev within : Verdict → ℕ → Bool
+within (Wrong place) excess = false
+within (Long less) excess = ltb less excess
+within Only excess = true
+within Several excess = true
+
+-- the shortest before the long, a smaller excess before a larger, and all before the wrong
+abbrev pub beats : Verdict → Verdict → Bool
+beats v (Wrong place) = generating v
+beats v (Long excess) = within v excess
+beats v Only = false
+beats v Several = false
+
+pub record Better (m : Meaning) (w first second taps : List ℕ) : Type 0 where
+  pub first-verdict : Verdict
+  pub second-verdict : Verdict
+  pub first-judged : Judged m w first first-verdict
+  pub second-judged : Judged m w second second-verdict
+  pub chosen : taps ≡ cond (beats second-verdict first-verdict) second first
+
+abbrev pub betterRefusal : Meaning → List ℕ → List ℕ → List ℕ → ℕ → Option Refusal
+betterRefusal m w first second cells = orElse (markRefusal m w first cells) (markRefusal m w second cells)

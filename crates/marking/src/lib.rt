@@ -1,7 +1,9 @@
 // Marks for claimed registers.
+mod choice;
 mod marks;
 mod verdict;
 
+pub use choice::better;
 pub use marks::mark_claim;
 pub use marks::one_verdict;
 pub use verdict::Mark;

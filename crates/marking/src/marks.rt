@@ -9,7 +9,7 @@ ghost use Rattle.field.specs.Refusals.{refusalOf};
 ghost use Rattle.massey.specs.Steps.{steps};
 ghost use Rattle.register.specs.Strings.{Digits, Generates, Breaks};
 ghost use Rattle.synthesis.specs.Scratch.{scratchCells, cleared};
-ghost use Rattle.marking.specs.Marks.{Judged, Marked, Decided, OneVerdict, markRefusal};
+ghost use Rattle.marking.specs.Marks.{Judged, Marked, Decided, OneVerdict, claimRefusal, markRefusal};
 ghost use Rattle.marking.specs.declared.verdict.Verdict.the-variants.{Wrong};
 use crate::verdict::Mark;
 use crate::verdict::Verdict;
@@ -35,7 +35,7 @@ fn decide(broken: Option<usize>, claimed: usize, shortest: usize, digits: usize)
 }
 
 // The same, by what it says of the claim.
-fn judge<F: Field>(
+pub(crate) fn judge<F: Field>(
     field: &F,
     digits: &[u16],
     claim: &[u16],
@@ -51,6 +51,20 @@ fn judge<F: Field>(
     decide(broken, claim.len(), shortest.length, digits.len())
 }
 
+// The first broken place of a claim that marking does not refuse.
+pub(crate) fn test_claim<F: Field>(field: &F, digits: &[u16], claim: &[u16]) -> Result<Option<usize>, Refusal>
+    ensures refused { λ r. ⌜ refusalOf r ≡ claimRefusal (means (now (field .entry))) (now (digits .entry)) (now (claim .entry)) ⌝ }
+    ensures digits { λ r. ⌜ elim r [ Ok o ↦ Digits (means (now (field .entry))) (now (claim .entry)) × Digits (means (now (field .entry))) (now (digits .entry)) | Err e ↦ Unit {0} ] ⌝ }
+    ensures place { λ r. ⌜ elim r [ Ok o ↦ BySome o (Generates (means (now (field .entry))) (now (claim .entry)) (now (digits .entry))) (λ j. Breaks (means (now (field .entry))) (now (claim .entry)) (now (digits .entry)) j) | Err e ↦ Unit {0} ] ⌝ }
+{
+    let mut register = Register::new();
+    register.build(claim)?;
+    if digits.len() > MOST_DIGITS {
+        return Err(Refusal::TooManyDigits);
+    }
+    generates(field, &register, digits)
+}
+
 /// Marks the claim of these taps on the digits. The rows of the steps lie in the scratch, of which the cells used end as 0.
 pub fn mark_claim<F: Field>(
     field: &F,
@@ -62,12 +76,7 @@ pub fn mark_claim<F: Field>(
     ensures marked { λ r. ⌜ elim r [ Ok k ↦ (made (now (field .entry)) → Marked (means (now (field .entry))) (now (digits .entry)) (now (claim .entry)) k) | Err e ↦ Unit {0} ] ⌝ }
     ensures scratch { λ r. ⌜ elim r [ Ok k ↦ now (scratch .exit) ≡ cleared (scratchCells (length (now (digits .entry)))) (now (scratch .entry)) | Err e ↦ now (scratch .exit) ≡ now (scratch .entry) ] ⌝ }
 {
-    let mut register = Register::new();
-    register.build(claim)?;
-    if digits.len() > MOST_DIGITS {
-        return Err(Refusal::TooManyDigits);
-    }
-    let broken = generates(field, &register, digits)?;
+    let broken = test_claim(field, digits, claim)?;
     let shortest = find_shortest(field, digits, scratch)?;
     let verdict = judge(field, digits, claim, broken, shortest);
     Ok(Mark {

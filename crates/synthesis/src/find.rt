@@ -1,6 +1,7 @@
 // The length of a shortest register for a string, found in cells that are lent.
 ghost use mathlib.Core.Path.{_≡_};
 ghost use Prim.Native.Nat.{_≤_};
+ghost use lib.Dec.{leb};
 ghost use lib.ListN.{length};
 ghost use Rattle.std.specs.declared.result.Result.the-variants.{Ok, Err};
 ghost use Rattle.field.specs.Meaning.{Meaning};
@@ -28,6 +29,13 @@ fn scratch_cells(digits: usize) -> usize
     ensures { λ r. ⌜ r ≡ scratchCells digits ⌝ }
 {
     3 * (digits + 1)
+}
+
+/// Whether so many cells are enough for the steps over so many digits.
+pub fn has_room(digits: usize, cells: usize) -> bool
+    ensures { λ r. ⌜ r ≡ leb (scratchCells digits) cells ⌝ }
+{
+    digits < cells / 3
 }
 
 fn find_in<F: Field>(field: &F, digits: &[u16], rows: &mut [u16]) -> Shortest
@@ -76,9 +84,9 @@ pub fn find_shortest<F: Field>(
     if !are_digits(field, digits) {
         return Err(Refusal::NotADigit);
     }
-    let cells = scratch_cells(digits.len());
-    if scratch.len() < cells {
+    if !has_room(digits.len(), scratch.len()) {
         return Err(Refusal::TooFewCells);
     }
+    let cells = scratch_cells(digits.len());
     Ok(find_in_front(field, digits, scratch, cells))
 }

@@ -8,4 +8,5 @@ pub use find::Shortest;
 pub use find::ShortestDebug;
 pub use find::ShortestPartialEq;
 pub use find::find_shortest;
+pub use find::has_room;
 pub use progress::MOST_DIGITS;

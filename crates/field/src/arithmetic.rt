@@ -25,8 +25,15 @@ pub fn divide<F: Field>(field: &F, a: u16, b: u16) -> u16
     field.multiply(a, inverted(field, b))
 }
 
-// The laws leave one negative.
+// −a.
 pub fn negated<F: Field>(field: &F, a: u16) -> u16
+    ensures { λ r. ⌜ (made (now (field .entry)) → r ≡ negative (means (now (field .entry))) a) ⌝ }
+{
+    only_negative(field, a)
+}
+
+// The laws leave one negative.
+fn only_negative<F: Field>(field: &F, a: u16) -> u16
     ensures { λ r. ⌜ (made (now (field .entry)) → r ≡ negative (means (now (field .entry))) a) ⌝ }
 {
     field.negate(a)

@@ -52,7 +52,11 @@ pub(crate) fn judge<F: Field>(
 }
 
 // The first broken place of a claim that marking does not refuse.
-pub(crate) fn test_claim<F: Field>(field: &F, digits: &[u16], claim: &[u16]) -> Result<Option<usize>, Refusal>
+pub(crate) fn test_claim<F: Field>(
+    field: &F,
+    digits: &[u16],
+    claim: &[u16],
+) -> Result<Option<usize>, Refusal>
     ensures refused { λ r. ⌜ refusalOf r ≡ claimRefusal (means (now (field .entry))) (now (digits .entry)) (now (claim .entry)) ⌝ }
     ensures digits { λ r. ⌜ elim r [ Ok o ↦ Digits (means (now (field .entry))) (now (claim .entry)) × Digits (means (now (field .entry))) (now (digits .entry)) | Err e ↦ Unit {0} ] ⌝ }
     ensures place { λ r. ⌜ elim r [ Ok o ↦ BySome o (Generates (means (now (field .entry))) (now (claim .entry)) (now (digits .entry))) (λ j. Breaks (means (now (field .entry))) (now (claim .entry)) (now (digits .entry)) j) | Err e ↦ Unit {0} ] ⌝ }
@@ -89,5 +93,4 @@ pub fn mark_claim<F: Field>(
 /// No claim has two verdicts, so each verdict is given exactly where it holds.
 pub fn one_verdict()
     ensures { λ _. ⌜ OneVerdict ⌝ }
-{
-}
+{}

@@ -14,11 +14,9 @@ pub(crate) fn correction_steps()
 // Cells that are filled with taps.
 pub(crate) fn padding_steps()
     ensures { λ _. ⌜ PaddingSteps ⌝ }
-{
-}
+{}
 
 // A string, digit by digit.
 pub(crate) fn extension_steps()
     ensures { λ _. ⌜ ExtensionSteps ⌝ }
-{
-}
+{}

@@ -13,8 +13,8 @@ use Rattle.field.specs.Meaning.{Meaning}
 use Rattle.synthesis.specs.Scratch.{scratchCells}
 use Rattle.marking.specs.Marks.{Marked, markRefusal}
 use Rattle.sheet.specs.Faults.{faultOf}
-use Rattle.sheet.specs.Form.{Entry, HasForm}
-use Rattle.sheet.specs.Lines.{reading}
+use Rattle.sheet.specs.Form.{Entry, Tasks, HasForm}
+use Rattle.sheet.specs.Lines.{stopped, reading}
 use Rattle.sheet.specs.declared.fault.Fault.{Fault}
 use Rattle.sheet.specs.declared.fault.SheetFault.{SheetFault}
 use Rattle.answers.specs.Fields.{meaningOf}
@@ -42,10 +42,13 @@ pub record GoodSheet (sheet : List ℕ) (list : List Answer) : Type 0 where
   pub form : HasForm sheet tasks
   pub answered : AllAnswered tasks list
 
+-- the first fault, behind the tasks with which the sheet begins
 pub record FaultySheet (sheet : List ℕ) (f : Fault) : Type 0 where
+  pub tasks : List Entry
   pub fault : SheetFault
-  pub first : reading sheet ≡ Err fault
+  pub first : reading sheet ≡ stopped tasks fault
   pub reported : f ≡ faultOf fault
+  pub begun : (rest : List ℕ) × Tasks 0 tasks sheet rest
   pub no-form : (ts : List Entry) → HasForm sheet ts → ⊥
 
 abbrev pub SheetAnswered : List ℕ → Result Answers Fault → Type 0

@@ -8,7 +8,7 @@ use Rattle.sheet.specs.Form.{Entry, places}
 use Rattle.sheet.specs.Lines.{reading}
 use Rattle.sheet.specs.Exact.{ReadsExactly}
 use Rattle.sheet.specs.Faults.{faultOf}
-use Rattle.sheet.specs.Steps.{Opens, NextTask, NoTask, Refuses}
+use Rattle.sheet.specs.Calls.{Opens, NextTask, NoTask, Refuses}
 use Rattle.sheet.specs.Views.{remaining}
 use Rattle.sheet.specs.declared.fault.SheetFault.{SheetFault}
 use Rattle.sheet.specs.declared.reader.Reader.{Reader}
@@ -26,5 +26,5 @@ pub record ReadingSteps : Type 0 where
   pub none : (sheet : List ℕ) (r : Reader) → Opens sheet r → SoFar sheet r [] []
   pub more : (sheet : List ℕ) (r r′ : Reader) (ps ps′ : List ℕ) (list list′ : List Answer) (t : Entry) (a : Answer)
       → SoFar sheet r ps list → NextTask r ps t r′ ps′ → Answered t a → list′ ≡ list ++ a ∷ [] → SoFar sheet r′ ps′ list′
-  pub good : (sheet : List ℕ) (r : Reader) (ps : List ℕ) (list : List Answer) → SoFar sheet r ps list → NoTask r ps → GoodSheet sheet list
-  pub faulty : (sheet : List ℕ) (r : Reader) (ps : List ℕ) (list : List Answer) (e : SheetFault) → SoFar sheet r ps list → Refuses r ps e → FaultySheet sheet (faultOf e)
+  pub good : (sheet : List ℕ) (r : Reader) (ps ps′ : List ℕ) (list : List Answer) (t t′ : Entry) → SoFar sheet r ps list → NoTask r ps ps′ t t′ → GoodSheet sheet list
+  pub faulty : (sheet : List ℕ) (r : Reader) (ps ps′ : List ℕ) (list : List Answer) (e : SheetFault) → SoFar sheet r ps list → Refuses r ps e ps′ → FaultySheet sheet (faultOf e)

@@ -3,9 +3,9 @@ ghost use mathlib.Core.List.{List};
 ghost use mathlib.Core.Path.{_≡_};
 ghost use Prim.Native.Nat.{ℕ, _<_};
 ghost use lib.ListN.{length};
-ghost use Rattle.std.specs.Orderings.{When};
 ghost use Rattle.std.specs.Results.{Cases};
 ghost use Rattle.synthesis.specs.Scratch.{scratchCells};
+ghost use Rattle.sheet.specs.Calls.{ByNext};
 ghost use Rattle.sheet.specs.Faults.{faultOf};
 ghost use Rattle.sheet.specs.Held.{noted};
 ghost use Rattle.sheet.specs.Views.{unread};
@@ -16,6 +16,7 @@ use crate::answer::Answers;
 use crate::facts::reading_steps;
 use crate::fields::answer_task;
 use sheet::Fault;
+use sheet::Next;
 use sheet::Places;
 use sheet::Reader;
 use sheet::SheetFault;
@@ -24,29 +25,31 @@ use sheet::Task;
 // The cells that marking needs at most.
 const SCRATCH: usize = 771;
 
-// Reads and answers the next task: true. Or reads the tail: false.
+// Reads and answers the next task, or reads the end of the sheet.
 fn answer_next(
     reader: &mut Reader<'_>,
     places: &mut Places,
     task: &mut Task,
     scratch: &mut [u16],
     answers: &mut Answers,
-) -> Result<bool, SheetFault>
+) -> Result<Next, SheetFault>
     requires room { ⌜ length (now scratch) ≡ scratchCells 256 ⌝ }
     requires level { ⌜ length (answersIn (now answers)) ≡ length (noted (now places)) ⌝ }
-    ensures level { λ r. ⌜ Cases r (λ more. When more (length (answersIn (now (answers .exit))) ≡ length (noted (now (places .exit)))) (Unit {0})) (λ _. Unit {0}) ⌝ }
-    ensures onward { λ r. ⌜ Cases r (λ more. When more (unread (now (reader .exit)) < unread (now (reader .entry))) (Unit {0})) (λ _. Unit {0}) ⌝ }
+    ensures level { λ r. ⌜ Cases r (λ next. ByNext next (length (answersIn (now (answers .exit))) ≡ length (noted (now (places .exit)))) (Unit {0})) (λ _. Unit {0}) ⌝ }
+    ensures onward { λ r. ⌜ Cases r (λ next. ByNext next (unread (now (reader .exit)) < unread (now (reader .entry))) (Unit {0})) (λ _. Unit {0}) ⌝ }
     ensures read { λ r. ⌜ ((sheet : List ℕ) → SoFar sheet (now (reader .entry)) (noted (now (places .entry))) (answersIn (now (answers .entry)))
         → Cases r
-        (λ more. When more (SoFar sheet (now (reader .exit)) (noted (now (places .exit))) (answersIn (now (answers .exit)))) (GoodSheet sheet (answersIn (now (answers .exit)))))
+        (λ next. ByNext next (SoFar sheet (now (reader .exit)) (noted (now (places .exit))) (answersIn (now (answers .exit)))) (GoodSheet sheet (answersIn (now (answers .exit)))))
         (λ e. FaultySheet sheet (faultOf e))) ⌝ }
 {
     match reader.next_task(places, task) {
-        Ok(true) => {
-            answers.push(answer_task(task, scratch));
-            Ok(true)
-        }
-        Ok(false) => Ok(false),
+        Ok(next) => match next {
+            Next::Another => {
+                answers.push(answer_task(task, scratch));
+                Ok(Next::Another)
+            }
+            Next::End => Ok(Next::End),
+        },
         Err(fault) => Err(fault),
     }
 }
@@ -69,8 +72,8 @@ pub fn answer_sheet(sheet: &[u8]) -> Result<Answers, Fault>
             &mut scratch,
             &mut answers,
         ) {
-            Ok(true) => {}
-            Ok(false) => return Ok(answers),
+            Ok(Next::Another) => {}
+            Ok(Next::End) => return Ok(answers),
             Err(fault) => return Err(fault.flat()),
         }
     }

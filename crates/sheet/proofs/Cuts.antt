@@ -13,17 +13,18 @@ use Rattle.std.proofs.shelf.Lists.{drop-all, drop-drop, length-take-le, length-
 use Rattle.std.proofs.shelf.Tests.{ne-eqb, cond-true, cond-false, cases-bool, cond-both, and-left}
 use Rattle.sheet.proofs.Splits.{after-drop, after-none, split-some}
 use Rattle.sheet.specs.Form.{Entry}
-use Rattle.sheet.specs.Lines.{Due, Outcome, asSheet, turn, ended, openedOf, linesAfter, readFrom, endFrom}
-use Rattle.sheet.specs.Reading.{spot, andThen, Opened, opened}
+use Rattle.sheet.specs.Lines.{Due, Outcome, stopped, orStop, asSheet, turn, ended, openedOf, linesAfter, readFrom, endFrom}
+use Rattle.sheet.specs.Reading.{spot, Opened, opened}
 use Rattle.sheet.specs.Split.{prepend, split, after}
 use Rattle.sheet.specs.declared.fault.LineFault.{LineFault}
+use Rattle.sheet.specs.declared.fault.SheetFault.{SheetFault}
 use Rattle.sheet.specs.declared.fault.SheetFault.the-variants.{Order, Line}
 
 -- what an opened line leads to
-abbrev goesTo : ℕ → ℕ → List Entry → Due → (List Entry → Due → Outcome) → (Outcome → Outcome) → Result Opened LineFault → Outcome
-goesTo line byte ts due next end r = andThen (asSheet r) (λ o. turn line byte ts due next end (o .keyword) (o .stop) (o .words))
+abbrev goesTo : ℕ → ℕ → List Entry → Due → (List Entry → Due → Outcome) → Result (Unit {0}) SheetFault → Result Opened LineFault → Outcome
+goesTo line byte ts due next end r = orStop ts (asSheet r) (λ o. turn line byte ts due next end (o .keyword) (o .stop) (o .words))
 
-pub lines-step : (line byte : ℕ) (l : List ℕ) (ls : List (List ℕ)) (ts : List Entry) (due : Due) → linesAfter line byte (l ∷ ls) ts due ≡ andThen (openedOf line byte l ls) (λ o. turn line byte ts due (linesAfter (line + 1) (byte + length l + 1) ls) (ended (line + 1) (byte + length l + 1) ls) (o .keyword) (o .stop) (o .words))
+pub lines-step : (line byte : ℕ) (l : List ℕ) (ls : List (List ℕ)) (ts : List Entry) (due : Due) → linesAfter line byte (l ∷ ls) ts due ≡ orStop ts (openedOf line byte l ls) (λ o. turn line byte ts due (linesAfter (line + 1) (byte + length l + 1) ls) (ended (line + 1) (byte + length l + 1) ls) (o .keyword) (o .stop) (o .words))
 unfolding linesAfter
 lines-step line byte l ls ts due = refl
 
@@ -52,7 +53,7 @@ module _ {sheet : List ℕ} {b0 n : ℕ} {left text behind : List ℕ} (h : Cut 
   pieces : split 10 (drop b0 sheet) ≡ text ∷ after 10 behind
   pieces = let a = h .rest in let b = h .front in let c = h .back in let d = h .cut in cc
 
-  pub no-line : length behind ≡ 0 → readFrom sheet l0 b0 ts due ≡ Err (Order (spot l0 b0))
+  pub no-line : length behind ≡ 0 → readFrom sheet l0 b0 ts due ≡ stopped ts (Order (spot l0 b0))
   no-line e =
       ap (λ ps. linesAfter l0 b0 ps ts due) (pieces ∙ ap (λ ps. text ∷ ps) (after-none 10 behind e))
       ∙ lines-step l0 b0 text [] ts due
@@ -71,24 +72,24 @@ module _ {sheet : List ℕ} {b0 n : ℕ} {left text behind : List ℕ} (h : Cut 
   line-is some r e =
       ap (λ ps. linesAfter l0 b0 ps ts due) (pieces ∙ ap (λ ps. text ∷ ps) (behind-is some))
       ∙ lines-step l0 b0 text (split 10 (drop (b0 + length text + 1) sheet)) ts due
-      ∙ ap (λ o. andThen o (λ o. turn l0 b0 ts due (readFrom sheet (l0 + 1) (b0 + length text + 1)) (endFrom sheet (l0 + 1) (b0 + length text + 1)) (o .keyword) (o .stop) (o .words)))
+      ∙ ap (λ o. orStop ts o (λ o. turn l0 b0 ts due (readFrom sheet (l0 + 1) (b0 + length text + 1)) (endFrom sheet (l0 + 1) (b0 + length text + 1)) (o .keyword) (o .stop) (o .words)))
       (not-last l0 b0 text 10 (drop (b0 + length text + 1) sheet))
       ∙ ap (goesTo l0 b0 ts due (readFrom sheet (l0 + 1) (b0 + length text + 1)) (endFrom sheet (l0 + 1) (b0 + length text + 1))) e
 
 -- The end of the sheet.
-prepend-goes-on : (line byte : ℕ) (b : ℕ) (ws : List (List ℕ)) (x : Outcome) → ended line byte (prepend b ws) x ≡ Err (Order (spot line byte))
-prepend-goes-on line byte b [] x = refl
-prepend-goes-on line byte b (w ∷ ws) x = cond-false (eqb (length (b ∷ w)) 0 && eqb (length ws) 0) x (Err (Order (spot line byte))) (and-left _ _ (ne-eqb (length (b ∷ w)) 0 (λ e. omega arith)))
+prepend-goes-on : (line byte : ℕ) (b : ℕ) (ws : List (List ℕ)) → ended line byte (prepend b ws) ≡ Err (Order (spot line byte))
+prepend-goes-on line byte b [] = refl
+prepend-goes-on line byte b (w ∷ ws) = cond-false (eqb (length (b ∷ w)) 0 && eqb (length ws) 0) (Ok tt) (Err (Order (spot line byte))) (and-left _ _ (ne-eqb (length (b ∷ w)) 0 (λ e. omega arith)))
 
-goes-on : (line byte : ℕ) (xs : List ℕ) (x : Outcome) → 0 < length xs → ended line byte (split 10 xs) x ≡ Err (Order (spot line byte))
-goes-on line byte [] x h = absurd (omega arith)
-goes-on line byte (b ∷ bs) x h =
-    cond-both (eqb b 10) ([] ∷ split 10 bs) (prepend b (split 10 bs)) (λ ps. ended line byte ps x ≡ Err (Order (spot line byte)))
-    (λ t. let some = split-some 10 bs in cond-false (eqb (length (split 10 bs)) 0) x (Err (Order (spot line byte))) (ne-eqb (length (split 10 bs)) 0 (λ e. omega arith)))
-    (λ f. prepend-goes-on line byte b (split 10 bs) x)
+goes-on : (line byte : ℕ) (xs : List ℕ) → 0 < length xs → ended line byte (split 10 xs) ≡ Err (Order (spot line byte))
+goes-on line byte [] h = absurd (omega arith)
+goes-on line byte (b ∷ bs) h =
+    cond-both (eqb b 10) ([] ∷ split 10 bs) (prepend b (split 10 bs)) (λ ps. ended line byte ps ≡ Err (Order (spot line byte)))
+    (λ t. let some = split-some 10 bs in cond-false (eqb (length (split 10 bs)) 0) (Ok tt) (Err (Order (spot line byte))) (ne-eqb (length (split 10 bs)) 0 (λ e. omega arith)))
+    (λ f. prepend-goes-on line byte b (split 10 bs))
 
-pub ends-at : (sheet : List ℕ) (l b : ℕ) → length sheet ≤ b → (x : Outcome) → endFrom sheet l b x ≡ x
-ends-at sheet l b h x = ap (λ xs. ended l b (split 10 xs) x) (drop-all b sheet h)
+pub ends-at : (sheet : List ℕ) (l b : ℕ) → length sheet ≤ b → endFrom sheet l b ≡ Ok tt
+ends-at sheet l b h = ap (λ xs. ended l b (split 10 xs)) (drop-all b sheet h)
 
-pub goes-on-at : (sheet : List ℕ) (l b : ℕ) → b < length sheet → (x : Outcome) → endFrom sheet l b x ≡ Err (Order (spot l b))
-goes-on-at sheet l b h x = goes-on l b (drop b sheet) x (simp length-drop (omega arith))
+pub goes-on-at : (sheet : List ℕ) (l b : ℕ) → b < length sheet → endFrom sheet l b ≡ Err (Order (spot l b))
+goes-on-at sheet l b h = goes-on l b (drop b sheet) (simp length-drop (omega arith))

@@ -16,8 +16,8 @@ use Rattle.std.proofs.shelf.Lists.{nil-from-length}
 use Rattle.std.proofs.shelf.Tests.{eq-eqb, ne-eqb, eqb-true, cond-true, cond-false, cases-bool, and-parts}
 use Rattle.sheet.proofs.Figures.{numeral-sound, numeral-complete}
 use Rattle.sheet.proofs.Known.{number-kind, keyword-sound, field-sound, keyword-is, name-is}
-use Rattle.sheet.specs.Form.{Entry, AreNumbers, places}
-use Rattle.sheet.specs.Lines.{Outcome, asSheet, placesAfter, ended}
+use Rattle.sheet.specs.Form.{Entry, AreNumbers}
+use Rattle.sheet.specs.Lines.{Stopped, Outcome, orStop, asSheet, placesAfter, ended}
 use Rattle.sheet.specs.Names.{keyword, fieldName}
 use Rattle.sheet.specs.Numeral.{Number, numeral}
 use Rattle.sheet.specs.Words.{kindOf, asKeyword, asName, asNumber}
@@ -40,6 +40,10 @@ same-ok x y p = cc
 pub bind-ok : {X Y E : Type 0} (r : Result X E) (f : X → Result Y E) (y : Y) → andThen r f ≡ Ok y → (x : X) × (r ≡ Ok x) × (f x ≡ Ok y)
 bind-ok (Ok x) f y p = (x, refl, p)
 bind-ok (Err e) f y p = absurd (no-err e y p)
+
+pub stop-ok : {X : Type 0} (ts : List Entry) (r : Result X SheetFault) (f : X → Outcome) (all : List Entry) → orStop ts r f ≡ Ok all → (x : X) × (r ≡ Ok x) × (f x ≡ Ok all)
+stop-ok ts (Ok x) f all p = (x, refl, p)
+stop-ok ts (Err e) f all p = absurd (no-err (record { tasks = ts; fault = e }) all p)
 
 pub sheet-ok : {X : Type 0} (r : Result X LineFault) (x : X) → asSheet r ≡ Ok x → r ≡ Ok x
 sheet-ok (Ok y) x p = ap Ok (same-ok y x p)
@@ -106,33 +110,32 @@ pub field-line-complete : (line byte : ℕ) (f : FieldName) → fieldAfter line 
 field-line-complete line byte f = ap (λ o. andThen (okOr o (BadWord (spot line (byte + 1)))) (noMore line (byte + 1 + length (fieldName f)) [])) (name-is f .2)
 
 -- The tail.
-pub places-sound : (line byte : ℕ) (ps : List ℕ) (ws : List (List ℕ)) (x : Outcome) (all : List Entry) → placesAfter line byte ps ws x ≡ Ok all → (x ≡ Ok all) × AreNumbers ws ps
-places-sound line byte [] [] x all p = (p, tt)
-places-sound line byte [] (w ∷ ws) x all p =
-    let q = bind-ok (asSheet (numberDue (spot line (byte + 1)) w)) (λ n. Err (Place (spot line (byte + 1)))) all p in
-    absurd (no-err (Place (spot line (byte + 1))) all (q .2))
-places-sound line byte (b ∷ ps) [] x all p = absurd (no-err (Place (spot line byte)) all p)
-places-sound line byte (b ∷ ps) (w ∷ ws) x all p =
-    let q = bind-ok (asSheet (numberDue (spot line (byte + 1)) w)) (λ n. cond (eqb n b) (placesAfter line (byte + 1 + length w) ps ws x) (Err (Place (spot line (byte + 1))))) all p in
-    let r = cond-ok (eqb (q .0) b) (placesAfter line (byte + 1 + length w) ps ws x) (Place (spot line (byte + 1))) all (q .2) in
-    let s = places-sound line (byte + 1 + length w) ps ws x all (r .1) in
+pub places-sound : (line byte : ℕ) (ps : List ℕ) (ws : List (List ℕ)) → placesAfter line byte ps ws ≡ Ok tt → AreNumbers ws ps
+places-sound line byte [] [] p = tt
+places-sound line byte [] (w ∷ ws) p =
+    let q = bind-ok (asSheet (numberDue (spot line (byte + 1)) w)) (λ n. Err (Place (spot line (byte + 1)))) tt p in
+    absurd (no-err (Place (spot line (byte + 1))) tt (q .2))
+places-sound line byte (b ∷ ps) [] p = absurd (no-err (Place (spot line byte)) tt p)
+places-sound line byte (b ∷ ps) (w ∷ ws) p =
+    let q = bind-ok (asSheet (numberDue (spot line (byte + 1)) w)) (λ n. cond (eqb n b) (placesAfter line (byte + 1 + length w) ps ws) (Err (Place (spot line (byte + 1))))) tt p in
+    let r = cond-ok (eqb (q .0) b) (placesAfter line (byte + 1 + length w) ps ws) (Place (spot line (byte + 1))) tt (q .2) in
     let n = due-sound (spot line (byte + 1)) w (q .0) (sheet-ok (numberDue (spot line (byte + 1)) w) (q .0) (q .1)) in
-    (s .0, (subst (Number w) (eqb-true _ _ (r .0)) n, s .1))
+    (subst (Number w) (eqb-true _ _ (r .0)) n, places-sound line (byte + 1 + length w) ps ws (r .1))
 
-pub places-complete : (line byte : ℕ) (ps : List ℕ) (ws : List (List ℕ)) (x : Outcome) → AreNumbers ws ps → placesAfter line byte ps ws x ≡ x
-places-complete line byte [] [] x h = refl
-places-complete line byte [] (w ∷ ws) x h = absurd h
-places-complete line byte (b ∷ ps) [] x h = absurd h
-places-complete line byte (b ∷ ps) (w ∷ ws) x h =
-    ap (λ r. andThen (asSheet r) (λ n. cond (eqb n b) (placesAfter line (byte + 1 + length w) ps ws x) (Err (Place (spot line (byte + 1)))))) (due-complete (spot line (byte + 1)) w b (h .0))
+pub places-complete : (line byte : ℕ) (ps : List ℕ) (ws : List (List ℕ)) → AreNumbers ws ps → placesAfter line byte ps ws ≡ Ok tt
+places-complete line byte [] [] h = refl
+places-complete line byte [] (w ∷ ws) h = absurd h
+places-complete line byte (b ∷ ps) [] h = absurd h
+places-complete line byte (b ∷ ps) (w ∷ ws) h =
+    ap (λ r. andThen (asSheet r) (λ n. cond (eqb n b) (placesAfter line (byte + 1 + length w) ps ws) (Err (Place (spot line (byte + 1)))))) (due-complete (spot line (byte + 1)) w b (h .0))
     ∙ cond-true (eqb b b) _ _ (eq-eqb b b refl)
-    ∙ places-complete line (byte + 1 + length w) ps ws x (h .1)
+    ∙ places-complete line (byte + 1 + length w) ps ws (h .1)
 
-pub ended-sound : (line byte : ℕ) (l : List ℕ) (ls : List (List ℕ)) (x : Outcome) (all : List Entry) → ended line byte (l ∷ ls) x ≡ Ok all → (x ≡ Ok all) × (l ≡ []) × (ls ≡ [])
-ended-sound line byte l ls x all p =
-    let q = cond-ok (eqb (length l) 0 && eqb (length ls) 0) x (Order (spot line byte)) all p in
+pub ended-sound : (line byte : ℕ) (l : List ℕ) (ls : List (List ℕ)) → ended line byte (l ∷ ls) ≡ Ok tt → (l ≡ []) × (ls ≡ [])
+ended-sound line byte l ls p =
+    let q = cond-ok (eqb (length l) 0 && eqb (length ls) 0) (Ok tt) (Order (spot line byte)) tt p in
     let r = and-parts _ _ (q .0) in
-    (q .1, nil-from-length l (eqb-true _ _ (r .0)), nil-from-length ls (eqb-true _ _ (r .1)))
+    (nil-from-length l (eqb-true _ _ (r .0)), nil-from-length ls (eqb-true _ _ (r .1)))
 
 -- The first word.
 pub opened-sound : (line byte : ℕ) (ps : List (List ℕ)) (o : Opened) → opened line byte ps ≡ Ok o → ps ≡ keyword (o .keyword) ∷ o .words

@@ -11,7 +11,7 @@ use Rattle.std.specs.declared.option.Option.the-variants.{Some, None}
 use Rattle.std.proofs.shelf.Equals.{sameBytes-decides}
 use Rattle.std.proofs.shelf.Tests.{cond-true, cond-false, cases-bool}
 use Rattle.sheet.proofs.Joins.{lacks}
-use Rattle.sheet.specs.Names.{keyword, fieldName, firstOf, keywordOf, fieldOf}
+use Rattle.sheet.specs.Names.{keyword, fieldName, keywords, fields, firstOf, keywordOf, fieldOf}
 use Rattle.sheet.specs.Numeral.{numeral}
 use Rattle.sheet.specs.Words.{Kind, aKeyword, aName, aNumber, unknown, orElse, kindOf, asKeyword, asName, asNumber}
 use Rattle.sheet.specs.declared.names.Keyword.{Keyword}
@@ -53,10 +53,10 @@ pub number-kind : (w : List ℕ) → asNumber (kindOf w) ≡ numeral w
 number-kind w = number-found (numeral w) (keywordOf w) (fieldOf w)
 
 pub keyword-sound : (w : List ℕ) (k : Keyword) → asKeyword (kindOf w) ≡ Some k → w ≡ keyword k
-keyword-sound w k p = first-sound keyword (Field ∷ Digits ∷ Claim ∷ Tail ∷ []) w k (keyword-found (numeral w) (keywordOf w) (fieldOf w) k p)
+keyword-sound w k p = first-sound keyword keywords w k (keyword-found (numeral w) (keywordOf w) (fieldOf w) k p)
 
 pub field-sound : (w : List ℕ) (f : FieldName) → asName (kindOf w) ≡ Some f → w ≡ fieldName f
-field-sound w f p = first-sound fieldName (P2 ∷ P3 ∷ P5 ∷ P7 ∷ P17 ∷ P31 ∷ P127 ∷ P251 ∷ []) w f (name-found (numeral w) (keywordOf w) (fieldOf w) f p)
+field-sound w f p = first-sound fieldName fields w f (name-found (numeral w) (keywordOf w) (fieldOf w) f p)
 
 -- a keyword has neither blanks nor line ends, and is found
 pub keyword-is : (k : Keyword) → (lacks 32 (keyword k) ≡ true) × (lacks 10 (keyword k) ≡ true) × (asKeyword (kindOf (keyword k)) ≡ Some k)

@@ -1,6 +1,7 @@
 -- The keywords and the field names that a sheet knows. Assumes nothing.
 --   keyword k, fieldName f   the bytes of a keyword, of a field's name
 --   defaultField             the field of a task that names none
+--   keywords, fields         all of them
 --   firstOf text xs w        the first of xs whose text is w
 --   keywordOf w, fieldOf w   the keyword, the field with the bytes w
 use mathlib.Core.Bool.{cond}
@@ -38,8 +39,14 @@ abbrev pub firstOf : {X : Type 0} → (X → List ℕ) → List X → List ℕ �
 firstOf text [] w = None
 firstOf text (x ∷ xs) w = cond (sameBytes w (text x)) (Some x) (firstOf text xs w)
 
+abbrev pub keywords : List Keyword
+keywords = Field ∷ Digits ∷ Claim ∷ Tail ∷ []
+
+abbrev pub fields : List FieldName
+fields = P2 ∷ P3 ∷ P5 ∷ P7 ∷ P17 ∷ P31 ∷ P127 ∷ P251 ∷ []
+
 abbrev pub keywordOf : List ℕ → Option Keyword
-keywordOf = firstOf keyword (Field ∷ Digits ∷ Claim ∷ Tail ∷ [])
+keywordOf = firstOf keyword keywords
 
 abbrev pub fieldOf : List ℕ → Option FieldName
-fieldOf = firstOf fieldName (P2 ∷ P3 ∷ P5 ∷ P7 ∷ P17 ∷ P31 ∷ P127 ∷ P251 ∷ [])
+fieldOf = firstOf fieldName fields

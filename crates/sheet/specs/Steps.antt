@@ -7,18 +7,17 @@
 --   DigitsRead, ClaimRead, OpeningRead, TaskRead   the digits line, the claim line, the lines up to the digits, the whole task is read; .. Fails: the fault
 --   Room, Full             there are fewer than 32 tasks, or not
 --   PlaceHolds, PlacesHold, TailRead, Ends   the next place, all places, the whole tail are true, nothing follows; .. Fails, GoesOn: the fault
---   NextTask, NoTask, Refuses   what the call for the next task answers
 use mathlib.Core.Path.{_≡_}
 use mathlib.Core.List.{List, [], _∷_, _++_}
 use Prim.Native.Nat.{ℕ, _+_, _≤_, _<_}
 use lib.ListN.{length}
+use Rattle.std.specs.declared.result.Result.{Result}
 use Rattle.std.specs.declared.result.Result.the-variants.{Ok, Err}
-use Rattle.sheet.specs.Exact.{ReadsExactly}
 use Rattle.sheet.specs.Form.{Entry, places}
-use Rattle.sheet.specs.Lines.{entry, Due, start, digitsOf, claimOf, Outcome, turn, placesAfter, reading}
+use Rattle.sheet.specs.Lines.{entry, Due, start, digitsOf, claimOf, Outcome, stopped, turn, placesAfter}
 use Rattle.sheet.specs.Reading.{spot, opened}
 use Rattle.sheet.specs.Split.{split, after}
-use Rattle.sheet.specs.Views.{from, remaining, ending, unread}
+use Rattle.sheet.specs.Views.{from, ending}
 use Rattle.sheet.specs.Words.{kindOf, kindIn, textOf, placeOf}
 use Rattle.sheet.specs.declared.fault.At.{At}
 use Rattle.sheet.specs.declared.fault.SheetFault.{SheetFault}
@@ -57,12 +56,6 @@ pub record LineOpened (text : List ℕ) (a : At) (l : Line) : Type 0 where
   pub line : l .words .line ≡ a .line
   pub fits : end (l .words) ≤ 32768
 
--- the reader stands at the first byte of the sheet
-pub record Opens (sheet : List ℕ) (r : Reader) : Type 0 where
-  pub sheet-is : r .sheet .now ≡ sheet
-  pub first : reading sheet ≡ remaining r []
-  pub exact : ReadsExactly sheet
-
 pub record LineRead (r0 : Reader) (l : Line) (r1 : Reader) : Type 0 where
   pub read : (ts : List Entry) (due : Due) → from r0 ts due ≡ turn (l .at .line) (l .at .byte) ts due (from r1) (ending r1) (l .keyword) (l .words .byte) (wordsLeft (l .words))
   pub line : l .words .line ≡ l .at .line
@@ -70,21 +63,21 @@ pub record LineRead (r0 : Reader) (l : Line) (r1 : Reader) : Type 0 where
   pub onward : r0 .place < r1 .place
 
 pub record LineFails (r : Reader) (e : SheetFault) : Type 0 where
-  pub fails : (ts : List Entry) (due : Due) → from r ts due ≡ Err e
+  pub fails : (ts : List Entry) (due : Due) → from r ts due ≡ stopped ts e
 
 pub record DigitsRead (r0 : Reader) (ds : List ℕ) (r1 : Reader) : Type 0 where
   pub read : (ts : List Entry) (b : ℕ) (f : FieldName) → from r0 ts (digitsOf b f) ≡ from r1 ts (claimOf b f ds)
   pub onward : r0 .place < r1 .place
 
 pub record DigitsFail (r : Reader) (e : SheetFault) : Type 0 where
-  pub fails : (ts : List Entry) (b : ℕ) (f : FieldName) → from r ts (digitsOf b f) ≡ Err e
+  pub fails : (ts : List Entry) (b : ℕ) (f : FieldName) → from r ts (digitsOf b f) ≡ stopped ts e
 
 pub record ClaimRead (r0 : Reader) (cs : List ℕ) (r1 : Reader) : Type 0 where
   pub read : (ts : List Entry) (b : ℕ) (f : FieldName) (ds : List ℕ) → from r0 ts (claimOf b f ds) ≡ from r1 (ts ++ entry b f ds cs ∷ []) start
   pub onward : r0 .place < r1 .place
 
 pub record ClaimFails (r : Reader) (e : SheetFault) : Type 0 where
-  pub fails : (ts : List Entry) (b : ℕ) (f : FieldName) (ds : List ℕ) → from r ts (claimOf b f ds) ≡ Err e
+  pub fails : (ts : List Entry) (b : ℕ) (f : FieldName) (ds : List ℕ) → from r ts (claimOf b f ds) ≡ stopped ts e
 
 pub record Room (ps : List ℕ) : Type 0 where
   pub few : (ts : List Entry) → places ts ≡ ps → length ts < 32
@@ -108,42 +101,21 @@ pub record TaskRead (l : Line) (r0 : Reader) (ps : List ℕ) (t : Entry) (r1 : R
   pub onward : r0 .place ≤ r1 .place
 
 pub record TaskFails (l : Line) (r : Reader) (ps : List ℕ) (e : SheetFault) : Type 0 where
-  pub fails : (ts : List Entry) → places ts ≡ ps → (l .keyword ≡ Tail → ⊥) → fromLine l r ts ≡ Err e
+  pub fails : (ts : List Entry) → places ts ≡ ps → (l .keyword ≡ Tail → ⊥) → fromLine l r ts ≡ stopped ts e
+
+-- the words left are the places ps
+abbrev pub placesLeft : Words → List ℕ → Result (Unit {0}) SheetFault
+placesLeft v ps = placesAfter (v .line) (v .byte) ps (wordsLeft v)
 
 pub record PlaceHolds (v0 : Words) (p : ℕ) (v1 : Words) : Type 0 where
-  pub holds : (ps : List ℕ) (x : Outcome) → placesAfter (v0 .line) (v0 .byte) (p ∷ ps) (wordsLeft v0) x ≡ placesAfter (v1 .line) (v1 .byte) ps (wordsLeft v1) x
+  pub holds : (ps : List ℕ) → placesLeft v0 (p ∷ ps) ≡ placesLeft v1 ps
   pub end-is : end v1 ≡ end v0
 
 pub record PlaceFails (v : Words) (p : ℕ) (e : SheetFault) : Type 0 where
-  pub fails : (ps : List ℕ) (x : Outcome) → placesAfter (v .line) (v .byte) (p ∷ ps) (wordsLeft v) x ≡ Err e
-
-pub record PlacesHold (v : Words) (ps : List ℕ) : Type 0 where
-  pub hold : (x : Outcome) → placesAfter (v .line) (v .byte) ps (wordsLeft v) x ≡ x
-
-pub record PlacesFail (v : Words) (ps : List ℕ) (e : SheetFault) : Type 0 where
-  pub fail : (x : Outcome) → placesAfter (v .line) (v .byte) ps (wordsLeft v) x ≡ Err e
-
-pub record Ends (r : Reader) : Type 0 where
-  pub ends : (x : Outcome) → ending r x ≡ x
-
-pub record GoesOn (r : Reader) (e : SheetFault) : Type 0 where
-  pub fails : (x : Outcome) → ending r x ≡ Err e
+  pub fails : (ps : List ℕ) → placesLeft v (p ∷ ps) ≡ Err e
 
 pub record TailRead (l : Line) (r : Reader) (ps : List ℕ) : Type 0 where
   pub read : (ts : List Entry) → places ts ≡ ps → l .keyword ≡ Tail → fromLine l r ts ≡ Ok ts
 
 pub record TailFails (l : Line) (r : Reader) (ps : List ℕ) (e : SheetFault) : Type 0 where
-  pub fails : (ts : List Entry) → places ts ≡ ps → l .keyword ≡ Tail → fromLine l r ts ≡ Err e
-
--- a task is read behind any tasks with the places noted, and its place is noted too
-pub record NextTask (r0 : Reader) (ps0 : List ℕ) (t : Entry) (r1 : Reader) (ps1 : List ℕ) : Type 0 where
-  pub read : (ts : List Entry) → places ts ≡ ps0 → remaining r0 ts ≡ remaining r1 (ts ++ t ∷ [])
-  pub place : ps1 ≡ ps0 ++ t .byte ∷ []
-  pub onward : unread r1 < unread r0
-
--- the tail is read behind any tasks with the places noted
-pub record NoTask (r : Reader) (ps : List ℕ) : Type 0 where
-  pub read : (ts : List Entry) → places ts ≡ ps → remaining r ts ≡ Ok ts
-
-pub record Refuses (r : Reader) (ps : List ℕ) (e : SheetFault) : Type 0 where
-  pub fails : (ts : List Entry) → places ts ≡ ps → remaining r ts ≡ Err e
+  pub fails : (ts : List Entry) → places ts ≡ ps → l .keyword ≡ Tail → fromLine l r ts ≡ stopped ts e

@@ -3,7 +3,6 @@ mod contents;
 mod exact;
 mod fault;
 mod line;
-mod lists;
 mod names;
 mod numbers;
 mod numeral;
@@ -31,6 +30,7 @@ pub use names::default_field;
 pub use numbers::Numbers;
 pub use places::Places;
 pub use reader::Reader;
+pub use task::Next;
 pub use task::Task;
 
 #[cfg(test)]

@@ -4,7 +4,7 @@ use crate::names::Keyword;
 
 /// What is left of a line behind a word: nothing, or a blank and more words.
 #[derive(Drop)]
-pub struct Words<'a> {
+pub(crate) struct Words<'a> {
     pub(crate) rest: &'a [u8],
     pub(crate) line: usize,
     pub(crate) byte: usize,
@@ -12,7 +12,7 @@ pub struct Words<'a> {
 
 /// A line with its first word known.
 #[derive(Drop)]
-pub struct Line<'a> {
+pub(crate) struct Line<'a> {
     pub(crate) keyword: Keyword,
     pub(crate) at: At,
     pub(crate) words: Words<'a>,

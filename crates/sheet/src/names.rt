@@ -5,7 +5,7 @@ ghost use Rattle.sheet.specs.Names.{defaultField, keywordOf, fieldOf};
 
 /// The first word of a line.
 #[derive(Clone, Copy)]
-pub enum Keyword {
+pub(crate) enum Keyword {
     Field,
     Digits,
     Claim,

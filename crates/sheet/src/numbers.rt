@@ -3,13 +3,16 @@ ghost use mathlib.Core.Path.{_≡_};
 ghost use Prim.Native.Nat.{_≤_};
 ghost use lib.ListN.{length, take};
 
-/// No line of a sheet has more numbers: each takes two of its 32,768 bytes.
-pub(crate) const MOST: usize = 16384;
+mod list;
 
+// No line of a sheet has more numbers: each takes two of its 32,768 bytes.
+const MOST: usize = 16384;
+
+/// The numbers of a line, from its first to its last.
 #[derive(Drop)]
 pub struct Numbers {
-    pub(crate) cells: [u16; MOST],
-    pub(crate) count: usize,
+    cells: [u16; MOST],
+    count: usize,
     ghost room: { count ≤ 16384 },
     ghost long: { length (take count cells) ≡ count },
 }

@@ -6,8 +6,8 @@ mod lines;
 mod tail;
 mod tasks;
 
-/// A sheet has at most this many bytes.
-pub(crate) const LONGEST: usize = 32768;
+// A sheet has at most this many bytes.
+const LONGEST: usize = 32768;
 
 /// Reads a sheet from a place on. The line's number counts from 1.
 #[derive(Drop)]

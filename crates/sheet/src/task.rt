@@ -5,6 +5,13 @@ use crate::names::FieldName;
 use crate::names::default_field;
 use crate::numbers::Numbers;
 
+/// What comes next in a sheet: another task, or its end.
+#[derive(Clone, Copy)]
+pub enum Next {
+    Another,
+    End,
+}
+
 #[derive(Drop)]
 pub struct Task {
     /// Where its first line begins.

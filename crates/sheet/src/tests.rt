@@ -6,6 +6,7 @@ use crate::FieldName;
 use crate::FieldNameDebug;
 use crate::FieldNamePartialEq;
 use crate::Layer;
+use crate::Next;
 use crate::Places;
 use crate::Reader;
 use crate::SheetFault;
@@ -17,7 +18,7 @@ fn count(sheet: &[u8]) -> Result<usize, SheetFault> {
     let mut reader = Reader::open(sheet);
     let mut places = Places::new();
     let mut task = Task::new();
-    while reader.next_task(&mut places, &mut task)? {}
+    while let Next::Another = reader.next_task(&mut places, &mut task)? {}
     Ok(places.as_slice().len())
 }
 
@@ -59,12 +60,42 @@ fn a_task() -> Result<(), Fail> {
     let mut places = Places::new();
     let mut task = Task::new();
     match reader.next_task(&mut places, &mut task) {
-        Ok(more) => check(more)?,
+        Ok(next) => check(matches!(next, Next::Another))?,
         Err(e) => check_eq(Some(e.flat()), None)?,
     }
     check_eq(task.field, FieldName::P5)?;
     check(task.digits.as_slice() == &[1, 3])?;
     check(task.claim.as_slice() == &[2])
+}
+
+// The fault of the first task of the sheet, behind the places.
+fn first_fault(sheet: &[u8], places: &mut Places) -> Option<Fault> {
+    let mut task = Task::new();
+    match Reader::open(sheet).next_task(places, &mut task) {
+        Ok(_) => None,
+        Err(e) => Some(e.flat()),
+    }
+}
+
+#[test]
+fn thirty_two_tasks() -> Result<(), Fail> {
+    let mut places = Places::new();
+    for _ in 0..32 {
+        check_eq(first_fault(b"digits\nclaim\n", &mut places), None)?;
+    }
+    let full = Fault {
+        number: 10,
+        layer: Layer::Sheet,
+        line: 1,
+        byte: 0,
+    };
+    check_eq(first_fault(b"digits\nclaim\n", &mut places), Some(full))
+}
+
+#[test]
+fn longest_sheet() -> Result<(), Fail> {
+    fails(&[b'\n'; 32768], 9, Layer::Line, 1, 0)?;
+    fails(&[b'\n'; 32769], 10, Layer::Sheet, 1, 0)
 }
 
 #[test]

@@ -17,7 +17,7 @@ use crate::numeral::number_of;
 
 /// A part of the sheet.
 #[derive(Clone, Copy)]
-pub enum Word<'a> {
+pub(crate) enum Word<'a> {
     Keyword {
         keyword: Keyword,
         text: &'a [u8],

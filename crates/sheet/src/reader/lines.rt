@@ -1,8 +1,9 @@
 //! The lines of the sheet, from first to last.
 ghost use mathlib.Core.Path.{_≡_};
 ghost use Rattle.std.specs.Results.{Cases};
-ghost use Rattle.sheet.specs.Steps.{Opens, LineRead, LineFails, Ends, GoesOn};
-ghost use Rattle.sheet.specs.Views.{Short};
+ghost use Rattle.sheet.specs.Calls.{Opens};
+ghost use Rattle.sheet.specs.Steps.{LineRead, LineFails};
+ghost use Rattle.sheet.specs.Views.{ending, Short};
 use crate::exact::reading_is_exact;
 use crate::fault::At;
 use crate::fault::SheetFault;
@@ -26,7 +27,7 @@ impl<'a> Reader<'a> {
     }
 
     // The next line, opened.
-    pub(crate) fn line(&mut self) -> Result<Line<'a>, SheetFault>
+    pub(super) fn next_line(&mut self) -> Result<Line<'a>, SheetFault>
         requires { ⌜ Short (now self) ⌝ }
         ensures sheet { λ _. ⌜ now (self .exit) .sheet ≡ now (self .entry) .sheet ⌝ }
         ensures read { λ r. ⌜ Cases r (λ l. LineRead (now (self .entry)) l (now (self .exit))) (λ e. LineFails (now (self .entry)) e) ⌝ }
@@ -46,8 +47,8 @@ impl<'a> Reader<'a> {
     }
 
     // Nothing follows.
-    pub(crate) fn end(&self) -> Result<(), SheetFault>
-        ensures { λ r. ⌜ Cases r (λ _. Ends (now (self .entry))) (λ e. GoesOn (now (self .entry)) e) ⌝ }
+    pub(super) fn end(&self) -> Result<(), SheetFault>
+        ensures { λ r. ⌜ r ≡ ending (now (self .entry)) ⌝ }
     {
         if self.place < self.sheet.len() {
             return Err(SheetFault::Order(At {

@@ -4,7 +4,7 @@ ghost use mathlib.Core.Path.{_≡_};
 ghost use Prim.Native.Nat.{_≤_};
 ghost use Rattle.std.specs.Results.{Cases};
 ghost use Rattle.sheet.specs.Held.{noted};
-ghost use Rattle.sheet.specs.Steps.{end, PlaceHolds, PlaceFails, PlacesHold, PlacesFail, TailRead, TailFails};
+ghost use Rattle.sheet.specs.Steps.{end, placesLeft, PlaceHolds, PlaceFails, TailRead, TailFails};
 use crate::fault::At;
 use crate::fault::SheetFault;
 use crate::fault::SheetFromLine;
@@ -33,7 +33,7 @@ fn place_is(words: &mut Words<'_>, place: usize) -> Result<(), SheetFault>
 // No place is left.
 fn no_place(words: &mut Words<'_>) -> Result<(), SheetFault>
     requires { ⌜ end (now words) ≤ 32768 ⌝ }
-    ensures { λ r. ⌜ Cases r (λ _. PlacesHold (now (words .entry)) []) (λ e. PlacesFail (now (words .entry)) [] e) ⌝ }
+    ensures { λ r. ⌜ r ≡ placesLeft (now (words .entry)) [] ⌝ }
 {
     match words.next() {
         Some(word) => {
@@ -47,7 +47,7 @@ fn no_place(words: &mut Words<'_>) -> Result<(), SheetFault>
 // The words are these places.
 fn places_are(words: &mut Words<'_>, places: &[usize]) -> Result<(), SheetFault>
     requires { ⌜ end (now words) ≤ 32768 ⌝ }
-    ensures { λ r. ⌜ Cases r (λ _. PlacesHold (now (words .entry)) (now (places .entry))) (λ e. PlacesFail (now (words .entry)) (now (places .entry)) e) ⌝ }
+    ensures { λ r. ⌜ r ≡ placesLeft (now (words .entry)) (now (places .entry)) ⌝ }
 {
     for place in places {
         place_is(words, *place)?;
@@ -57,7 +57,7 @@ fn places_are(words: &mut Words<'_>, places: &[usize]) -> Result<(), SheetFault>
 
 impl<'a> Reader<'a> {
     // The tail line has the places noted, and nothing follows it.
-    pub(crate) fn tail(&self, mut line: Line<'a>, places: &Places) -> Result<(), SheetFault>
+    pub(super) fn tail(&self, mut line: Line<'a>, places: &Places) -> Result<(), SheetFault>
         requires line { ⌜ line .words .line ≡ line .at .line ⌝ }
         requires fits { ⌜ end (line .words) ≤ 32768 ⌝ }
         ensures { λ r. ⌜ Cases r (λ _. TailRead (line .entry) (now (self .entry)) (noted (now (places .entry)))) (λ e. TailFails (line .entry) (now (self .entry)) (noted (now (places .entry))) e) ⌝ }

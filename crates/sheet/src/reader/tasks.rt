@@ -1,10 +1,10 @@
 //! The tasks of the sheet, one at a time.
 ghost use mathlib.Core.Path.{_≡_};
 ghost use Prim.Native.Nat.{_≤_};
-ghost use Rattle.std.specs.Orderings.{When};
 ghost use Rattle.std.specs.Results.{Cases};
+ghost use Rattle.sheet.specs.Calls.{ByNext, NextTask, NoTask, Refuses};
 ghost use Rattle.sheet.specs.Held.{held, noted};
-ghost use Rattle.sheet.specs.Steps.{end, DigitsRead, DigitsFail, ClaimRead, ClaimFails, Room, Full, OpeningRead, TaskRead, TaskFails, NextTask, NoTask, Refuses};
+ghost use Rattle.sheet.specs.Steps.{end, DigitsRead, DigitsFail, ClaimRead, ClaimFails, Room, Full, OpeningRead, TaskRead, TaskFails};
 ghost use Rattle.sheet.specs.Views.{entryOf, Short};
 use crate::contents::field_name;
 use crate::contents::numbers;
@@ -17,16 +17,16 @@ use crate::names::Keyword;
 use crate::names::default_field;
 use crate::numbers::Numbers;
 use crate::places::Places;
-use crate::places::TASKS;
 use crate::reader::LONGEST;
 use crate::reader::Reader;
+use crate::task::Next;
 use crate::task::Task;
 
 // One more task may begin at this place.
 fn room(places: &Places, at: At) -> Result<(), SheetFault>
     ensures { λ r. ⌜ Cases r (λ _. Room (noted (now (places .entry)))) (λ e. Full (noted (now (places .entry))) at e) ⌝ }
 {
-    if places.count >= TASKS {
+    if places.is_full() {
         return Err(SheetFault::Order(at));
     }
     Ok(())
@@ -39,7 +39,7 @@ impl<'a> Reader<'a> {
         ensures sheet { λ _. ⌜ now (self .exit) .sheet ≡ now (self .entry) .sheet ⌝ }
         ensures read { λ r. ⌜ Cases r (λ _. DigitsRead (now (self .entry)) (held (now (list .exit))) (now (self .exit))) (λ e. DigitsFail (now (self .entry)) e) ⌝ }
     {
-        let mut line = self.line()?;
+        let mut line = self.next_line()?;
         match line.keyword {
             Keyword::Digits => Ok(numbers(&mut line.words, list)?),
             _ => Err(SheetFault::Order(line.at)),
@@ -52,7 +52,7 @@ impl<'a> Reader<'a> {
         ensures sheet { λ _. ⌜ now (self .exit) .sheet ≡ now (self .entry) .sheet ⌝ }
         ensures read { λ r. ⌜ Cases r (λ _. ClaimRead (now (self .entry)) (held (now (list .exit))) (now (self .exit))) (λ e. ClaimFails (now (self .entry)) e) ⌝ }
     {
-        let mut line = self.line()?;
+        let mut line = self.next_line()?;
         match line.keyword {
             Keyword::Claim => Ok(numbers(&mut line.words, list)?),
             _ => Err(SheetFault::Order(line.at)),
@@ -103,36 +103,24 @@ impl<'a> Reader<'a> {
         self.claim(&mut task.claim)
     }
 
-    // The next task, or the tail.
-    fn advance(&mut self, places: &mut Places, task: &mut Task) -> Result<bool, SheetFault>
-        requires { ⌜ Short (now self) ⌝ }
+    /// Reads the next task and notes its place, or reads the tail and the end of the sheet.
+    pub fn next_task(&mut self, places: &mut Places, task: &mut Task) -> Result<Next, SheetFault>
         ensures sheet { λ _. ⌜ now (self .exit) .sheet ≡ now (self .entry) .sheet ⌝ }
         ensures read { λ r. ⌜ Cases r
-            (λ more. When more (NextTask (now (self .entry)) (noted (now (places .entry))) (entryOf (now (task .exit))) (now (self .exit)) (noted (now (places .exit))))
-            (NoTask (now (self .entry)) (noted (now (places .entry)))))
-            (λ e. Refuses (now (self .entry)) (noted (now (places .entry))) e) ⌝ }
-    {
-        let line = self.line()?;
-        if let Keyword::Tail = line.keyword {
-            self.tail(line, places)?;
-            return Ok(false);
-        }
-        self.task(line, places, task)?;
-        places.push(task.byte);
-        Ok(true)
-    }
-
-    /// Reads the next task and notes its place: true. Or reads the tail and the end of the sheet: false.
-    pub fn next_task(&mut self, places: &mut Places, task: &mut Task) -> Result<bool, SheetFault>
-        ensures sheet { λ _. ⌜ now (self .exit) .sheet ≡ now (self .entry) .sheet ⌝ }
-        ensures read { λ r. ⌜ Cases r
-            (λ more. When more (NextTask (now (self .entry)) (noted (now (places .entry))) (entryOf (now (task .exit))) (now (self .exit)) (noted (now (places .exit))))
-            (NoTask (now (self .entry)) (noted (now (places .entry)))))
-            (λ e. Refuses (now (self .entry)) (noted (now (places .entry))) e) ⌝ }
+            (λ next. ByNext next (NextTask (now (self .entry)) (noted (now (places .entry))) (entryOf (now (task .exit))) (now (self .exit)) (noted (now (places .exit))))
+            (NoTask (now (self .entry)) (noted (now (places .entry))) (noted (now (places .exit))) (entryOf (now (task .entry))) (entryOf (now (task .exit)))))
+            (λ e. Refuses (now (self .entry)) (noted (now (places .entry))) e (noted (now (places .exit)))) ⌝ }
     {
         if self.sheet.len() > LONGEST {
             return Err(SheetFault::Order(At { line: 1, byte: 0 }));
         }
-        self.advance(places, task)
+        let line = self.next_line()?;
+        if let Keyword::Tail = line.keyword {
+            self.tail(line, places)?;
+            return Ok(Next::End);
+        }
+        self.task(line, places, task)?;
+        places.push(task.byte);
+        Ok(Next::Another)
     }
 }

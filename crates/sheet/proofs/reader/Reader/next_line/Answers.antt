@@ -2,8 +2,8 @@ use native.Mathlib.Omega.{arith}
 use borrow.Author.Needs.{needs}
 use Rattle.std.proofs.shelf.Results.{err-from-errBy}
 use Rattle.sheet.proofs.Cuts.{Cut, no-line, line-is}
-use Rattle.sheet.proofs.reader.Reader.line.Needs as need
-use Rattle.sheet.proofs.reader.Reader.line.Needs.{After-split-at-2}
+use Rattle.sheet.proofs.reader.Reader.next_line.Needs as need
+use Rattle.sheet.proofs.reader.Reader.next_line.Needs.{After-split-at-2}
 
 found : (c : After-split-at-2) → Cut (c .args .self .now .sheet .now) (c .args .self .now .place) (c .find .result) (c .split-at .result .1 .now) (c .split-at-2 .result .0 .now) (c .split-at-2 .result .1 .now)
 found c = record {

@@ -1,0 +1,16 @@
+-- The reading and the form agree.
+use mathlib.Core.Path.{sym, _∙_}
+use mathlib.Core.List.{List}
+use Prim.Native.Nat.{ℕ}
+use Rattle.sheet.proofs.Complete.{complete}
+use Rattle.sheet.proofs.Inverts.{no-err}
+use Rattle.sheet.proofs.Sound.{sound, begun}
+use Rattle.sheet.specs.Exact.{ReadsExactly}
+
+pub reads-exactly : (bytes : List ℕ) → ReadsExactly bytes
+reads-exactly bytes = record {
+  sound = sound bytes;
+  complete = complete bytes;
+  refused = λ s p ts h. no-err s ts (sym p ∙ complete bytes ts h);
+  begun = begun bytes;
+}

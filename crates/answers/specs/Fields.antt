@@ -1,21 +1,21 @@
--- The fields that a sheet names. Assumes nothing.
---   sizeOf f      how many digits the field named f has
---   meaningOf f   what it means
-use Prim.Native.Nat.{ℕ}
+-- What the fields mean that a sheet names. Assumes nothing.
 use Rattle.field.specs.Meaning.{Meaning}
 use Rattle.residues.specs.Modulo.{modulo}
+use Rattle.bit_polynomials.specs.Polynomials.{fieldOf}
+use Rattle.table.specs.Logarithms.{byLogarithms}
 use Rattle.sheet.specs.declared.names.FieldName.{FieldName}
-use Rattle.sheet.specs.declared.names.FieldName.the-variants.{P2, P3, P5, P7, P17, P31, P127, P251}
-
-abbrev pub sizeOf : FieldName → ℕ
-sizeOf P2 = 2
-sizeOf P3 = 3
-sizeOf P5 = 5
-sizeOf P7 = 7
-sizeOf P17 = 17
-sizeOf P31 = 31
-sizeOf P127 = 127
-sizeOf P251 = 251
+use Rattle.sheet.specs.declared.names.FieldName.the-variants.{P2, P3, P5, P7, P17, P31, P127, P251, B4, B16, B256, T256}
 
 abbrev pub meaningOf : FieldName → Meaning
-meaningOf f = modulo (sizeOf f)
+meaningOf P2 = modulo 2
+meaningOf P3 = modulo 3
+meaningOf P5 = modulo 5
+meaningOf P7 = modulo 7
+meaningOf P17 = modulo 17
+meaningOf P31 = modulo 31
+meaningOf P127 = modulo 127
+meaningOf P251 = modulo 251
+meaningOf B4 = fieldOf 4
+meaningOf B16 = fieldOf 16
+meaningOf B256 = fieldOf 256
+meaningOf T256 = byLogarithms

@@ -1,4 +1,5 @@
-pub mod Meaning
 pub mod Laws
+pub mod Making
+pub mod Meaning
 pub mod Operations
 pub mod Refusals

@@ -17,7 +17,7 @@ use Rattle.sheet.specs.Words.{Kind, aKeyword, aName, aNumber, unknown, orElse,
 use Rattle.sheet.specs.declared.names.Keyword.{Keyword}
 use Rattle.sheet.specs.declared.names.Keyword.the-variants.{Field, Digits, Claim, Tail}
 use Rattle.sheet.specs.declared.names.FieldName.{FieldName}
-use Rattle.sheet.specs.declared.names.FieldName.the-variants.{P2, P3, P5, P7, P17, P31, P127, P251}
+use Rattle.sheet.specs.declared.names.FieldName.the-variants.{P2, P3, P5, P7, P17, P31, P127, P251, B4, B16, B256, T256}
 
 pub none-some : {X : Type 0} (y : X) → None ≡ Some y → ⊥
 none-some y p = let z : _≡_ {A = ℕ} 0 1 = cc in omega arith
@@ -75,3 +75,7 @@ name-is P17 = (refl, refl, refl)
 name-is P31 = (refl, refl, refl)
 name-is P127 = (refl, refl, refl)
 name-is P251 = (refl, refl, refl)
+name-is B4 = (refl, refl, refl)
+name-is B16 = (refl, refl, refl)
+name-is B256 = (refl, refl, refl)
+name-is T256 = (refl, refl, refl)

@@ -14,7 +14,7 @@ use Rattle.std.specs.declared.option.Option.the-variants.{Some, None}
 use Rattle.sheet.specs.declared.names.Keyword.{Keyword}
 use Rattle.sheet.specs.declared.names.Keyword.the-variants.{Field, Digits, Claim, Tail}
 use Rattle.sheet.specs.declared.names.FieldName.{FieldName}
-use Rattle.sheet.specs.declared.names.FieldName.the-variants.{P2, P3, P5, P7, P17, P31, P127, P251}
+use Rattle.sheet.specs.declared.names.FieldName.the-variants.{P2, P3, P5, P7, P17, P31, P127, P251, B4, B16, B256, T256}
 
 abbrev pub keyword : Keyword → List ℕ
 keyword Field = codes "field"
@@ -31,6 +31,10 @@ fieldName P17 = codes "p17"
 fieldName P31 = codes "p31"
 fieldName P127 = codes "p127"
 fieldName P251 = codes "p251"
+fieldName B4 = codes "b4"
+fieldName B16 = codes "b16"
+fieldName B256 = codes "b256"
+fieldName T256 = codes "t256"
 
 abbrev pub defaultField : FieldName
 defaultField = P2
@@ -43,7 +47,7 @@ abbrev pub keywords : List Keyword
 keywords = Field ∷ Digits ∷ Claim ∷ Tail ∷ []
 
 abbrev pub fields : List FieldName
-fields = P2 ∷ P3 ∷ P5 ∷ P7 ∷ P17 ∷ P31 ∷ P127 ∷ P251 ∷ []
+fields = P2 ∷ P3 ∷ P5 ∷ P7 ∷ P17 ∷ P31 ∷ P127 ∷ P251 ∷ B4 ∷ B16 ∷ B256 ∷ T256 ∷ []
 
 abbrev pub keywordOf : List ℕ → Option Keyword
 keywordOf = firstOf keyword keywords

@@ -23,6 +23,10 @@ pub enum FieldName {
     P31,
     P127,
     P251,
+    B4,
+    B16,
+    B256,
+    T256,
 }
 
 /// The field of a task that names none.
@@ -82,6 +86,18 @@ pub(crate) fn field_of(word: &[u8]) -> Option<FieldName>
     }
     if is(word, b"p251") {
         return Some(FieldName::P251);
+    }
+    if is(word, b"b4") {
+        return Some(FieldName::B4);
+    }
+    if is(word, b"b16") {
+        return Some(FieldName::B16);
+    }
+    if is(word, b"b256") {
+        return Some(FieldName::B256);
+    }
+    if is(word, b"t256") {
+        return Some(FieldName::T256);
     }
     None
 }

@@ -1,0 +1,5 @@
+pub mod Linear
+pub mod Reduced
+pub mod Powers
+pub mod Lawful
+pub mod Moduli

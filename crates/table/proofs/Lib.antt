@@ -1,0 +1,3 @@
+pub mod Exponents
+pub mod Transfer
+pub mod Agreeing

@@ -14,7 +14,7 @@ use Rattle.std.specs.declared.option.Option.{Option}
 use Rattle.std.specs.declared.option.Option.the-variants.{Some, None}
 use Rattle.std.proofs.shelf.Lists.{at-drop-more, at-drop-all}
 use Rattle.std.proofs.shelf.Tests.{le-leb, lt-leb, leb-true, eqb-true, eqb-false, ltb-true, ltb-false, ne-eqb, eq-eqb, le-ltb, lt-ltb, cond-true, cond-false, cases-lt, cases-eq, cases-bool, and-parts, and-cases, and-from, and-left, and-right, or-parts, or-from}
-use Rattle.sheet.specs.Numeral.{Figure, Figures, valueAfter, Number, isFigure, figuresAfter, misshapen, numeral}
+use Rattle.sheet.specs.Numeral.{Figure, Figures, valueAfter, Number, isFigure, figuresAfter, misshapen, atMost, numeral}
 
 pub figure : (b : ℕ) → 48 ≤ b → b ≤ 57 → isFigure b ≡ true
 figure b l h = and-from _ _ (le-leb 48 b l) (le-leb b 57 h)
@@ -26,7 +26,7 @@ module _ (w : List ℕ) (i n : ℕ) (in-w : i < length w) where
   pub figure-stop : isFigure (getD w i 0) ≡ false → figuresAfter n (drop i w) ≡ None
   figure-stop f = at-drop-more (figuresAfter n) w i 0 in-w ∙ cond-false _ _ _ f
 
-pub figure-all : (w : List ℕ) (i n : ℕ) → length w ≤ i → figuresAfter n (drop i w) ≡ cond (leb n 65535) (Some n) None
+pub figure-all : (w : List ℕ) (i n : ℕ) → length w ≤ i → figuresAfter n (drop i w) ≡ Some n
 figure-all w i n h = at-drop-all (figuresAfter n) w i h
 
 pub ten-more : (i : ℕ) → 10 ^ (i + 1) ≡ 10 ^ i * 10
@@ -36,38 +36,42 @@ ten-more i = ap (λ k. 10 ^ k) (add-one i) ∙ pow-suc 10 i
 pub record Read (m : ℕ) (w : List ℕ) (n : ℕ) : Type 0 where
   pub figures : Figures w
   pub value : n ≡ valueAfter m w
-  pub fits : n ≤ 65535
 
 never : {n : ℕ} → None ≡ Some n → ⊥
 never e = let z : _≡_ {A = ℕ} 0 1 = cc in omega arith
 
 read-sound : (m : ℕ) (w : List ℕ) (n : ℕ) → figuresAfter m w ≡ Some n → Read m w n
-read-sound m [] n e =
-    ⊎-elim
-    (λ t. let c = cond-true _ (Some m) None t in let same : m ≡ n = cc in let le = leb-true _ _ t in record { figures = tt; value = sym same; fits = omega arith })
-    (λ f. let c = cond-false _ (Some m) None f in absurd (never {n = n} (cc)))
-    (cases-bool (leb m 65535))
+read-sound m [] n e = record { figures = tt; value = let same : m ≡ n = cc in sym same }
 read-sound m (b ∷ bs) n e =
     ⊎-elim
     (λ t.
     let c = cond-true _ (figuresAfter (m * 10 + (b - 48)) bs) None t in
     let p = and-parts _ _ t in
     let r = read-sound (m * 10 + (b - 48)) bs n (cc) in
-    record { figures = ((leb-true _ _ (p .0), leb-true _ _ (p .1)), r .figures); value = r .value; fits = r .fits })
+    record { figures = ((leb-true _ _ (p .0), leb-true _ _ (p .1)), r .figures); value = r .value })
     (λ f. let c = cond-false _ (figuresAfter (m * 10 + (b - 48)) bs) None f in absurd (never {n = n} (cc)))
     (cases-bool (isFigure b))
 
-read-complete : (m : ℕ) (w : List ℕ) (n : ℕ) → Figures w → n ≡ valueAfter m w → n ≤ 65535 → figuresAfter m w ≡ Some n
-read-complete m [] n f v l = cond-true _ _ _ (le-leb m 65535 (omega arith)) ∙ ap Some (sym v)
-read-complete m (b ∷ bs) n f v l = cond-true _ _ _ (figure b (f .0 .0) (f .0 .1)) ∙ read-complete (m * 10 + (b - 48)) bs n (f .1) v l
+read-complete : (m : ℕ) (w : List ℕ) (n : ℕ) → Figures w → n ≡ valueAfter m w → figuresAfter m w ≡ Some n
+read-complete m [] n f v = ap Some (sym v)
+read-complete m (b ∷ bs) n f v = cond-true _ _ _ (figure b (f .0 .0) (f .0 .1)) ∙ read-complete (m * 10 + (b - 48)) bs n (f .1) v
+
+at-most-sound : (o : Option ℕ) (n : ℕ) → atMost o ≡ Some n → (o ≡ Some n) × (n ≤ 65535)
+at-most-sound None n e = absurd (never {n = n} e)
+at-most-sound (Some m) n e =
+    ⊎-elim
+    (λ t. let c = cond-true _ (Some m) None t in let same : m ≡ n = cc in let le = leb-true _ _ t in (ap Some same, omega arith))
+    (λ f. let c = cond-false _ (Some m) None f in absurd (never {n = n} (cc)))
+    (cases-bool (leb m 65535))
 
 pub numeral-sound : (w : List ℕ) (n : ℕ) → numeral w ≡ Some n → Number w n
 numeral-sound w n e =
     ⊎-elim
-    (λ t. let c = cond-true _ None (figuresAfter 0 w) t in absurd (never {n = n} (cc)))
+    (λ t. let c = cond-true _ None (atMost (figuresAfter 0 w)) t in absurd (never {n = n} (cc)))
     (λ f.
-    let c = cond-false _ None (figuresAfter 0 w) f in
-    let r = read-sound 0 w n (cc) in
+    let c = cond-false _ None (atMost (figuresAfter 0 w)) f in
+    let small = at-most-sound (figuresAfter 0 w) n (cc) in
+    let r = read-sound 0 w n (small .0) in
     let p = or-parts _ _ f in
     let q = or-parts _ _ (p .1) in
     let some = eqb-false _ _ (p .0) in
@@ -78,7 +82,7 @@ numeral-sound w n e =
       figures = r .figures;
       plain = λ z. ⊎-elim (λ g. absurd (eqb-false _ _ g z)) (λ g. let le = ltb-false _ _ g in ⊎-elim (λ h. absurd (some (omega arith))) (λ h. omega arith) (cases-lt (length w) 1)) (and-cases _ _ (q .1));
       value = r .value;
-      fits = r .fits;
+      fits = small .1;
     })
     (cases-bool (misshapen w))
 
@@ -88,4 +92,4 @@ numeral-complete w n h =
     let few = h .few in
     let shaped : misshapen w ≡ false = or-from _ _ (ne-eqb (length w) 0 (λ e. omega arith)) (or-from _ _ (le-ltb 5 (length w) few)
     (⊎-elim (λ z. and-right _ _ (let one = h .plain z in le-ltb 1 (length w) (omega arith))) (λ z. and-left _ _ (ne-eqb _ _ z)) (cases-eq (getD w 0 0) 48))) in
-    cond-false _ _ _ shaped ∙ read-complete 0 w n (h .figures) (h .value) (h .fits)
+    cond-false _ _ _ shaped ∙ ap atMost (read-complete 0 w n (h .figures) (h .value)) ∙ cond-true _ _ _ (le-leb n 65535 (h .fits))

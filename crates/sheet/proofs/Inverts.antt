@@ -17,7 +17,7 @@ use Rattle.std.proofs.shelf.Tests.{eq-eqb, ne-eqb, eqb-true, cond-true, cond-fa
 use Rattle.sheet.proofs.Figures.{numeral-sound, numeral-complete}
 use Rattle.sheet.proofs.Known.{number-kind, keyword-sound, field-sound, keyword-is, name-is}
 use Rattle.sheet.specs.Form.{Entry, AreNumbers}
-use Rattle.sheet.specs.Lines.{Stopped, Outcome, orStop, asSheet, placesAfter, ended}
+use Rattle.sheet.specs.Lines.{Stopped, Outcome, orStop, asSheet, placeDue, placesAfter, ended}
 use Rattle.sheet.specs.Names.{keyword, fieldName}
 use Rattle.sheet.specs.Numeral.{Number, numeral}
 use Rattle.sheet.specs.Words.{kindOf, asKeyword, asName, asNumber}
@@ -110,6 +110,17 @@ pub field-line-complete : (line byte : ℕ) (f : FieldName) → fieldAfter line 
 field-line-complete line byte f = ap (λ o. andThen (okOr o (BadWord (spot line (byte + 1)))) (noMore line (byte + 1 + length (fieldName f)) [])) (name-is f .2)
 
 -- The tail.
+place-sound : (a : At) (w : List ℕ) (b : ℕ) → placeDue a w b ≡ Ok tt → Number w b
+place-sound a w b p =
+    let q = bind-ok (asSheet (numberDue a w)) (λ n. cond (eqb n b) (Ok tt) (Err (Place a))) tt p in
+    let r = cond-ok (eqb (q .0) b) (Ok tt) (Place a) tt (q .2) in
+    subst (Number w) (eqb-true _ _ (r .0)) (due-sound a w (q .0) (sheet-ok (numberDue a w) (q .0) (q .1)))
+
+place-complete : (a : At) (w : List ℕ) (b : ℕ) → Number w b → placeDue a w b ≡ Ok tt
+place-complete a w b h =
+    ap (λ r. andThen (asSheet r) (λ n. cond (eqb n b) (Ok tt) (Err (Place a)))) (due-complete a w b h)
+    ∙ cond-true (eqb b b) _ _ (eq-eqb b b refl)
+
 pub places-sound : (line byte : ℕ) (ps : List ℕ) (ws : List (List ℕ)) → placesAfter line byte ps ws ≡ Ok tt → AreNumbers ws ps
 places-sound line byte [] [] p = tt
 places-sound line byte [] (w ∷ ws) p =
@@ -117,18 +128,15 @@ places-sound line byte [] (w ∷ ws) p =
     absurd (no-err (Place (spot line (byte + 1))) tt (q .2))
 places-sound line byte (b ∷ ps) [] p = absurd (no-err (Place (spot line byte)) tt p)
 places-sound line byte (b ∷ ps) (w ∷ ws) p =
-    let q = bind-ok (asSheet (numberDue (spot line (byte + 1)) w)) (λ n. cond (eqb n b) (placesAfter line (byte + 1 + length w) ps ws) (Err (Place (spot line (byte + 1))))) tt p in
-    let r = cond-ok (eqb (q .0) b) (placesAfter line (byte + 1 + length w) ps ws) (Place (spot line (byte + 1))) tt (q .2) in
-    let n = due-sound (spot line (byte + 1)) w (q .0) (sheet-ok (numberDue (spot line (byte + 1)) w) (q .0) (q .1)) in
-    (subst (Number w) (eqb-true _ _ (r .0)) n, places-sound line (byte + 1 + length w) ps ws (r .1))
+    let q = bind-ok (placeDue (spot line (byte + 1)) w b) (λ _. placesAfter line (byte + 1 + length w) ps ws) tt p in
+    (place-sound (spot line (byte + 1)) w b (q .1), places-sound line (byte + 1 + length w) ps ws (q .2))
 
 pub places-complete : (line byte : ℕ) (ps : List ℕ) (ws : List (List ℕ)) → AreNumbers ws ps → placesAfter line byte ps ws ≡ Ok tt
 places-complete line byte [] [] h = refl
 places-complete line byte [] (w ∷ ws) h = absurd h
 places-complete line byte (b ∷ ps) [] h = absurd h
 places-complete line byte (b ∷ ps) (w ∷ ws) h =
-    ap (λ r. andThen (asSheet r) (λ n. cond (eqb n b) (placesAfter line (byte + 1 + length w) ps ws) (Err (Place (spot line (byte + 1)))))) (due-complete (spot line (byte + 1)) w b (h .0))
-    ∙ cond-true (eqb b b) _ _ (eq-eqb b b refl)
+    ap (λ r. andThen r (λ _. placesAfter line (byte + 1 + length w) ps ws)) (place-complete (spot line (byte + 1)) w b (h .0))
     ∙ places-complete line (byte + 1 + length w) ps ws (h .1)
 
 pub ended-sound : (line byte : ℕ) (l : List ℕ) (ls : List (List ℕ)) → ended line byte (l ∷ ls) ≡ Ok tt → (l ≡ []) × (ls ≡ [])

@@ -13,7 +13,7 @@ use Rattle.std.proofs.shelf.Tests.{cond-true, cond-false, cases-bool}
 use Rattle.sheet.proofs.Joins.{lacks}
 use Rattle.sheet.specs.Names.{keyword, fieldName, keywords, fields, firstOf, keywordOf, fieldOf}
 use Rattle.sheet.specs.Numeral.{numeral}
-use Rattle.sheet.specs.Words.{Kind, aKeyword, aName, aNumber, unknown, orElse, kindOf, asKeyword, asName, asNumber}
+use Rattle.sheet.specs.Words.{kindBy, kindOf, asKeyword, asName, asNumber}
 use Rattle.sheet.specs.declared.names.Keyword.{Keyword}
 use Rattle.sheet.specs.declared.names.Keyword.the-variants.{Field, Digits, Claim, Tail}
 use Rattle.sheet.specs.declared.names.FieldName.{FieldName}
@@ -31,35 +31,39 @@ first-sound text (x ∷ xs) w y p =
     (cases-bool (sameBytes w (text x)))
 
 -- what was found first tells the kind
-number-found : (n : Option ℕ) (k : Option Keyword) (f : Option FieldName) → asNumber (orElse n aNumber (orElse k aKeyword (orElse f aName unknown))) ≡ n
+number-found : (n : Option ℕ) (k : Option Keyword) (f : Option FieldName) → asNumber (kindBy n k f) ≡ n
 number-found (Some n) k f = refl
 number-found None (Some k) f = refl
 number-found None None (Some f) = refl
 number-found None None None = refl
 
-keyword-found : (n : Option ℕ) (k : Option Keyword) (f : Option FieldName) (y : Keyword) → asKeyword (orElse n aNumber (orElse k aKeyword (orElse f aName unknown))) ≡ Some y → k ≡ Some y
+keyword-found : (n : Option ℕ) (k : Option Keyword) (f : Option FieldName) (y : Keyword) → asKeyword (kindBy n k f) ≡ Some y → k ≡ Some y
 keyword-found (Some n) k f y p = absurd (none-some y p)
 keyword-found None (Some k) f y p = p
 keyword-found None None (Some f) y p = absurd (none-some y p)
 keyword-found None None None y p = absurd (none-some y p)
 
-name-found : (n : Option ℕ) (k : Option Keyword) (f : Option FieldName) (y : FieldName) → asName (orElse n aNumber (orElse k aKeyword (orElse f aName unknown))) ≡ Some y → f ≡ Some y
+name-found : (n : Option ℕ) (k : Option Keyword) (f : Option FieldName) (y : FieldName) → asName (kindBy n k f) ≡ Some y → f ≡ Some y
 name-found (Some n) k f y p = absurd (none-some y p)
 name-found None (Some k) f y p = absurd (none-some y p)
 name-found None None (Some f) y p = p
 name-found None None None y p = absurd (none-some y p)
 
 pub number-kind : (w : List ℕ) → asNumber (kindOf w) ≡ numeral w
+unfolding kindOf
 number-kind w = number-found (numeral w) (keywordOf w) (fieldOf w)
 
 pub keyword-sound : (w : List ℕ) (k : Keyword) → asKeyword (kindOf w) ≡ Some k → w ≡ keyword k
+unfolding kindOf
 keyword-sound w k p = first-sound keyword keywords w k (keyword-found (numeral w) (keywordOf w) (fieldOf w) k p)
 
 pub field-sound : (w : List ℕ) (f : FieldName) → asName (kindOf w) ≡ Some f → w ≡ fieldName f
+unfolding kindOf
 field-sound w f p = first-sound fieldName fields w f (name-found (numeral w) (keywordOf w) (fieldOf w) f p)
 
 -- a keyword has neither blanks nor line ends, and is found
 pub keyword-is : (k : Keyword) → (lacks 32 (keyword k) ≡ true) × (lacks 10 (keyword k) ≡ true) × (asKeyword (kindOf (keyword k)) ≡ Some k)
+unfolding kindOf
 keyword-is Field = (refl, refl, refl)
 keyword-is Digits = (refl, refl, refl)
 keyword-is Claim = (refl, refl, refl)
@@ -67,6 +71,7 @@ keyword-is Tail = (refl, refl, refl)
 
 -- and so is a field's name
 pub name-is : (f : FieldName) → (lacks 32 (fieldName f) ≡ true) × (lacks 10 (fieldName f) ≡ true) × (asName (kindOf (fieldName f)) ≡ Some f)
+unfolding kindOf
 name-is P2 = (refl, refl, refl)
 name-is P3 = (refl, refl, refl)
 name-is P5 = (refl, refl, refl)

@@ -2,6 +2,7 @@
 --   Stopped                the tasks read before the first fault, and that fault
 --   Outcome                the tasks of the sheet, or where reading stopped
 --   Due                    what is due: a task or the tail, the digits of a task, its claim
+--   placeDue a w p         the word w at a is the place p
 --   placesAfter l b ps ws  the words ws are the places ps; the last word ended at the byte b of the line l
 --   ended l b ls           the lines ls are no byte at all
 --   turn .. k stop ws      what a line with the keyword k and the words ws leads to; its first word ends at the byte stop
@@ -20,6 +21,7 @@ use Rattle.sheet.specs.Form.{Entry, places}
 use Rattle.sheet.specs.Names.{defaultField}
 use Rattle.sheet.specs.Reading.{spot, andThen, numberDue, numbersAfter, fieldAfter, Opened, opened}
 use Rattle.sheet.specs.Split.{split}
+use Rattle.sheet.specs.declared.fault.At.{At}
 use Rattle.sheet.specs.declared.fault.LineFault.{LineFault}
 use Rattle.sheet.specs.declared.fault.SheetFault.{SheetFault}
 use Rattle.sheet.specs.declared.fault.SheetFault.the-variants.{Order, Place, Line}
@@ -49,13 +51,14 @@ abbrev pub asSheet : {X : Type 0} → Result X LineFault → Result X SheetFault
 asSheet (Ok x) = Ok x
 asSheet (Err e) = Err (Line e)
 
+abbrev pub placeDue : At → List ℕ → ℕ → Result (Unit {0}) SheetFault
+placeDue a w p = andThen (asSheet (numberDue a w)) (λ n. cond (eqb n p) (Ok tt) (Err (Place a)))
+
 abbrev pub placesAfter : ℕ → ℕ → List ℕ → List (List ℕ) → Result (Unit {0}) SheetFault
 placesAfter line byte [] [] = Ok tt
 placesAfter line byte [] (w ∷ ws) = andThen (asSheet (numberDue (spot line (byte + 1)) w)) (λ n. Err (Place (spot line (byte + 1))))
 placesAfter line byte (p ∷ ps) [] = Err (Place (spot line byte))
-placesAfter line byte (p ∷ ps) (w ∷ ws) =
-    andThen (asSheet (numberDue (spot line (byte + 1)) w))
-    (λ n. cond (eqb n p) (placesAfter line (byte + 1 + length w) ps ws) (Err (Place (spot line (byte + 1)))))
+placesAfter line byte (p ∷ ps) (w ∷ ws) = andThen (placeDue (spot line (byte + 1)) w p) (λ _. placesAfter line (byte + 1 + length w) ps ws)
 
 abbrev pub ended : ℕ → ℕ → List (List ℕ) → Result (Unit {0}) SheetFault
 ended line byte [] = Ok tt

@@ -36,12 +36,17 @@ abbrev pub isFigure : ℕ → Bool
 isFigure b = leb 48 b && leb b 57
 
 abbrev pub figuresAfter : ℕ → List ℕ → Option ℕ
-figuresAfter n [] = cond (leb n 65535) (Some n) None
+figuresAfter n [] = Some n
 figuresAfter n (b ∷ bs) = cond (isFigure b) (figuresAfter (n * 10 + (b - 48)) bs) None
 
 -- none or too many figures, or a leading zero
 abbrev pub misshapen : List ℕ → Bool
 misshapen w = eqb (length w) 0 || (ltb 5 (length w) || (eqb (getD w 0 0) 48 && ltb 1 (length w)))
 
+-- no number past 65,535
+abbrev pub atMost : Option ℕ → Option ℕ
+atMost None = None
+atMost (Some n) = cond (leb n 65535) (Some n) None
+
 abbrev pub numeral : List ℕ → Option ℕ
-numeral w = cond (misshapen w) None (figuresAfter 0 w)
+numeral w = cond (misshapen w) None (atMost (figuresAfter 0 w))

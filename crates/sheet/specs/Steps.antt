@@ -1,12 +1,16 @@
 -- What each part of the reader promises: reading from where it began comes to reading from where it ended, or to the fault. Assumes nothing.
 --   wordsLeft v            the words of what is left of a line
---   end v                  the byte where the line ends
+--   lineEnd v              the byte where the line ends
+--   placesLeft v ps        the words left are the places ps, or the fault
 --   fromLine l r ts        what is read from the opened line l and then from r on, where a task or the tail is due
 --   NextWord, NoWord       one word of a line, or its end
---   LineRead, LineFails    the next line is opened
---   DigitsRead, ClaimRead, OpeningRead, TaskRead   the digits line, the claim line, the lines up to the digits, the whole task is read; .. Fails: the fault
---   Room, Full             there are fewer than 32 tasks, or not
---   PlaceHolds, PlacesHold, TailRead, Ends   the next place, all places, the whole tail are true, nothing follows; .. Fails, GoesOn: the fault
+--   LineOpened, LineRead   the line is opened; the next line of the sheet is
+--   DigitsRead, ClaimRead  the digits line, the claim line is read
+--   Room, Full             one more task may begin, or there are 32
+--   OpeningRead, TaskRead  the lines up to the digits, the whole task is read
+--   PlaceHolds             the next word is the place
+--   TailRead               the tail line is true, and nothing follows
+--   .. Fail, .. Fails      the fault there
 use mathlib.Core.Path.{_≡_}
 use mathlib.Core.List.{List, [], _∷_, _++_}
 use Prim.Native.Nat.{ℕ, _+_, _≤_, _<_}
@@ -32,8 +36,8 @@ use Rattle.sheet.specs.declared.word.Word.{Word}
 abbrev pub wordsLeft : Words → List (List ℕ)
 wordsLeft v = after 32 (v .rest .now)
 
-abbrev pub end : Words → ℕ
-end v = v .byte + length (v .rest .now)
+abbrev pub lineEnd : Words → ℕ
+lineEnd v = v .byte + length (v .rest .now)
 
 pub record NextWord (v0 : Words) (w : Word) (v1 : Words) : Type 0 where
   pub words : wordsLeft v0 ≡ textOf w ∷ wordsLeft v1
@@ -41,25 +45,25 @@ pub record NextWord (v0 : Words) (w : Word) (v1 : Words) : Type 0 where
   pub place : placeOf w ≡ spot (v0 .line) (v0 .byte + 1)
   pub line : v1 .line ≡ v0 .line
   pub byte : v1 .byte ≡ v0 .byte + 1 + length (textOf w)
-  pub end-is : end v1 ≡ end v0
+  pub end-is : lineEnd v1 ≡ lineEnd v0
 
 pub record NoWord (v0 v1 : Words) : Type 0 where
   pub words : wordsLeft v0 ≡ []
   pub line : v1 .line ≡ v0 .line
   pub byte : v1 .byte ≡ v0 .byte
-  pub end-is : end v1 ≡ end v0
+  pub end-is : lineEnd v1 ≡ lineEnd v0
 
 -- the text at a is the line l
 pub record LineOpened (text : List ℕ) (a : At) (l : Line) : Type 0 where
   pub opens : opened (a .line) (a .byte) (split 32 text) ≡ Ok (record { keyword = l .keyword; stop = l .words .byte; words = wordsLeft (l .words) })
   pub place : l .at ≡ a
   pub line : l .words .line ≡ a .line
-  pub fits : end (l .words) ≤ 32768
+  pub fits : lineEnd (l .words) ≤ 32768
 
 pub record LineRead (r0 : Reader) (l : Line) (r1 : Reader) : Type 0 where
   pub read : (ts : List Entry) (due : Due) → from r0 ts due ≡ turn (l .at .line) (l .at .byte) ts due (from r1) (ending r1) (l .keyword) (l .words .byte) (wordsLeft (l .words))
   pub line : l .words .line ≡ l .at .line
-  pub fits : end (l .words) ≤ 32768
+  pub fits : lineEnd (l .words) ≤ 32768
   pub onward : r0 .place < r1 .place
 
 pub record LineFails (r : Reader) (e : SheetFault) : Type 0 where
@@ -103,13 +107,12 @@ pub record TaskRead (l : Line) (r0 : Reader) (ps : List ℕ) (t : Entry) (r1 : R
 pub record TaskFails (l : Line) (r : Reader) (ps : List ℕ) (e : SheetFault) : Type 0 where
   pub fails : (ts : List Entry) → places ts ≡ ps → (l .keyword ≡ Tail → ⊥) → fromLine l r ts ≡ stopped ts e
 
--- the words left are the places ps
 abbrev pub placesLeft : Words → List ℕ → Result (Unit {0}) SheetFault
 placesLeft v ps = placesAfter (v .line) (v .byte) ps (wordsLeft v)
 
 pub record PlaceHolds (v0 : Words) (p : ℕ) (v1 : Words) : Type 0 where
   pub holds : (ps : List ℕ) → placesLeft v0 (p ∷ ps) ≡ placesLeft v1 ps
-  pub end-is : end v1 ≡ end v0
+  pub end-is : lineEnd v1 ≡ lineEnd v0
 
 pub record PlaceFails (v : Words) (p : ℕ) (e : SheetFault) : Type 0 where
   pub fails : (ps : List ℕ) → placesLeft v (p ∷ ps) ≡ Err e

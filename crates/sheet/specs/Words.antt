@@ -1,5 +1,6 @@
 -- The kind of a word. Assumes nothing.
 --   Kind                       a keyword, a field's name, a number, or none of these
+--   kindBy n k f               the kind of what is the number n, the keyword k or the field's name f
 --   kindOf w                   the kind of the bytes w
 --   asKeyword, asName, asNumber   what a word of that kind tells
 --   kindIn, textOf, placeOf    the kind, the bytes and the place that the reader's word tells
@@ -26,8 +27,11 @@ abbrev pub orElse : {X : Type 0} → Option X → (X → Kind) → Kind → Kind
 orElse None kind next = next
 orElse (Some x) kind next = kind x
 
-abbrev pub kindOf : List ℕ → Kind
-kindOf w = orElse (numeral w) aNumber (orElse (keywordOf w) aKeyword (orElse (fieldOf w) aName unknown))
+abbrev pub kindBy : Option ℕ → Option Key → Option FieldName → Kind
+kindBy n k f = orElse n aNumber (orElse k aKeyword (orElse f aName unknown))
+
+unfoldable pub kindOf : List ℕ → Kind
+kindOf w = kindBy (numeral w) (keywordOf w) (fieldOf w)
 
 abbrev pub asKeyword : Kind → Option Key
 asKeyword (aKeyword k) = Some k

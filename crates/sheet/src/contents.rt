@@ -6,7 +6,7 @@ ghost use Rattle.std.specs.Results.{Cases};
 ghost use Rattle.std.specs.declared.result.Result.the-variants.{Ok, Err};
 ghost use Rattle.sheet.specs.Held.{held};
 ghost use Rattle.sheet.specs.Reading.{numbersAfter, fieldAfter};
-ghost use Rattle.sheet.specs.Steps.{end, wordsLeft};
+ghost use Rattle.sheet.specs.Steps.{lineEnd, wordsLeft};
 use crate::fault::At;
 use crate::fault::LineFault;
 use crate::line::Words;
@@ -16,7 +16,7 @@ use crate::word::Word;
 
 // Puts the numbers into the list, in place of what it held.
 pub(crate) fn numbers(words: &mut Words<'_>, list: &mut Numbers) -> Result<(), LineFault>
-    requires { ⌜ end (now words) ≤ 32768 ⌝ }
+    requires { ⌜ lineEnd (now words) ≤ 32768 ⌝ }
     ensures { λ r. ⌜ Cases r
         (λ _. numbersAfter (now (words .entry) .line) (now (words .entry) .byte) [] (wordsLeft (now (words .entry))) ≡ Ok (held (now (list .exit))))
         (λ e. numbersAfter (now (words .entry) .line) (now (words .entry) .byte) [] (wordsLeft (now (words .entry))) ≡ Err e) ⌝ }
@@ -30,7 +30,7 @@ pub(crate) fn numbers(words: &mut Words<'_>, list: &mut Numbers) -> Result<(), L
 
 // The one field name.
 pub(crate) fn field_name(words: &mut Words<'_>) -> Result<FieldName, LineFault>
-    requires { ⌜ end (now words) ≤ 32768 ⌝ }
+    requires { ⌜ lineEnd (now words) ≤ 32768 ⌝ }
     ensures { λ r. ⌜ r ≡ fieldAfter (now (words .entry) .line) (now (words .entry) .byte) (wordsLeft (now (words .entry))) ⌝ }
 {
     let Some(word) = words.next() else {

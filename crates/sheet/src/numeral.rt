@@ -10,7 +10,8 @@ fn is_misshapen(word: &[u8]) -> bool
     word.len() == 0 || word.len() > 5 || (word[0] == b'0' && word.len() > 1)
 }
 
-fn figures(word: &[u8]) -> Option<u16>
+// The value of the figures, if the bytes are all figures.
+fn figures(word: &[u8]) -> Option<u32>
     requires { ⌜ length (now word) ≤ 5 ⌝ }
     ensures { λ r. ⌜ r ≡ figuresAfter 0 (now (word .entry)) ⌝ }
 {
@@ -21,19 +22,21 @@ fn figures(word: &[u8]) -> Option<u16>
         }
         value = value * 10 + (*b - b'0') as u32;
     }
-    if value > 65535 {
-        None
-    } else {
-        Some(value as u16)
-    }
+    Some(value)
 }
 
 pub(crate) fn number_of(word: &[u8]) -> Option<u16>
     ensures { λ r. ⌜ r ≡ numeral (now (word .entry)) ⌝ }
 {
     if is_misshapen(word) {
+        return None;
+    }
+    let Some(value) = figures(word) else {
+        return None;
+    };
+    if value > 65535 {
         None
     } else {
-        figures(word)
+        Some(value as u16)
     }
 }

@@ -8,7 +8,7 @@ ghost use Rattle.std.specs.Results.{Cases};
 ghost use Rattle.std.specs.declared.result.Result.the-variants.{Err};
 ghost use Rattle.sheet.specs.Reading.{opened};
 ghost use Rattle.sheet.specs.Split.{split, after};
-ghost use Rattle.sheet.specs.Steps.{end, NextWord, NoWord, LineOpened};
+ghost use Rattle.sheet.specs.Steps.{lineEnd, NextWord, NoWord, LineOpened};
 use crate::fault::At;
 use crate::fault::LineFault;
 use crate::line::Line;
@@ -30,7 +30,7 @@ pub(crate) fn find(text: &[u8], stop: u8) -> usize
 
 impl<'a> Words<'a> {
     pub(crate) fn next(&mut self) -> Option<Word<'a>>
-        requires { ⌜ end (now self) ≤ 32768 ⌝ }
+        requires { ⌜ lineEnd (now self) ≤ 32768 ⌝ }
         ensures { λ r. ⌜ BySome r (NoWord (now (self .entry)) (now (self .exit))) (λ w. NextWord (now (self .entry)) w (now (self .exit))) ⌝ }
     {
         if self.rest.len() == 0 {

@@ -3,8 +3,10 @@ ghost use mathlib.Core.Path.{_≡_};
 ghost use Prim.Native.Nat.{_<_};
 ghost use lib.ListN.{length};
 ghost use Rattle.std.specs.Vec.{made};
+ghost use Rattle.sheet.specs.Names.{keywordOf, fieldOf};
+ghost use Rattle.sheet.specs.Numeral.{numeral};
 ghost use Rattle.sheet.specs.Reading.{numberOf, numberDue};
-ghost use Rattle.sheet.specs.Words.{kindOf, asNumber, kindIn, textOf, placeOf};
+ghost use Rattle.sheet.specs.Words.{kindBy, kindOf, kindIn, textOf, placeOf};
 use crate::fault::At;
 use crate::fault::LineFault;
 use crate::fault::LineFromNumber;
@@ -40,8 +42,9 @@ pub(crate) enum Word<'a> {
 }
 
 impl<'a> Word<'a> {
-    pub(crate) fn new(text: &'a [u8], at: At) -> Word<'a>
-        ensures kind { λ r. ⌜ kindIn r ≡ kindOf (now (text .entry)) ⌝ }
+    // A number, or else a keyword, or else a field's name.
+    fn classify(text: &'a [u8], at: At) -> Word<'a>
+        ensures kind { λ r. ⌜ kindIn r ≡ kindBy (numeral (now (text .entry))) (keywordOf (now (text .entry))) (fieldOf (now (text .entry))) ⌝ }
         ensures text { λ r. ⌜ textOf r ≡ now (text .entry) ⌝ }
         ensures place { λ r. ⌜ placeOf r ≡ at ⌝ }
     {
@@ -55,6 +58,14 @@ impl<'a> Word<'a> {
             return Word::Name { field, text, at };
         }
         Word::Unknown { text, at }
+    }
+
+    pub(crate) fn new(text: &'a [u8], at: At) -> Word<'a>
+        ensures kind { λ r. ⌜ kindIn r ≡ kindOf (now (text .entry)) ⌝ }
+        ensures text { λ r. ⌜ textOf r ≡ now (text .entry) ⌝ }
+        ensures place { λ r. ⌜ placeOf r ≡ at ⌝ }
+    {
+        Word::classify(text, at)
     }
 
     pub(crate) fn text(&self) -> &'a [u8]

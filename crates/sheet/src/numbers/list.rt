@@ -8,7 +8,7 @@ use crate::numbers::Numbers;
 
 impl Numbers {
     /// No numbers.
-    pub fn new() -> Numbers
+    pub(crate) fn new() -> Numbers
         ensures { λ r. ⌜ held r ≡ [] ⌝ }
     {
         Numbers {

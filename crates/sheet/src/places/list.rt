@@ -21,7 +21,7 @@ impl Places {
     }
 
     /// The places noted, in their order.
-    pub fn as_slice(&self) -> &[usize]
+    pub(crate) fn as_slice(&self) -> &[usize]
         ensures { λ r. ⌜ now r ≡ noted (now (self .entry)) ⌝ }
     {
         &self.cells[0..self.count]

@@ -4,7 +4,7 @@ ghost use Prim.Native.Nat.{_≤_};
 ghost use Rattle.std.specs.Results.{Cases};
 ghost use Rattle.sheet.specs.Calls.{ByNext, NextTask, NoTask, Refuses};
 ghost use Rattle.sheet.specs.Held.{held, noted};
-ghost use Rattle.sheet.specs.Steps.{end, DigitsRead, DigitsFail, ClaimRead, ClaimFails, Room, Full, OpeningRead, TaskRead, TaskFails};
+ghost use Rattle.sheet.specs.Steps.{lineEnd, DigitsRead, DigitsFail, ClaimRead, ClaimFails, Room, Full, OpeningRead, TaskRead, TaskFails};
 ghost use Rattle.sheet.specs.Views.{entryOf, Short};
 use crate::contents::field_name;
 use crate::contents::numbers;
@@ -68,7 +68,7 @@ impl<'a> Reader<'a> {
     ) -> Result<FieldName, SheetFault>
         requires short { ⌜ Short (now self) ⌝ }
         requires line { ⌜ first .words .line ≡ first .at .line ⌝ }
-        requires fits { ⌜ end (first .words) ≤ 32768 ⌝ }
+        requires fits { ⌜ lineEnd (first .words) ≤ 32768 ⌝ }
         ensures sheet { λ _. ⌜ now (self .exit) .sheet ≡ now (self .entry) .sheet ⌝ }
         ensures read { λ r. ⌜ Cases r (λ f. OpeningRead (first .entry) (now (self .entry)) (noted (now (places .entry))) f (held (now (digits .exit))) (now (self .exit)))
             (λ e. TaskFails (first .entry) (now (self .entry)) (noted (now (places .entry))) e) ⌝ }
@@ -93,7 +93,7 @@ impl<'a> Reader<'a> {
     fn task(&mut self, first: Line<'a>, places: &Places, task: &mut Task) -> Result<(), SheetFault>
         requires short { ⌜ Short (now self) ⌝ }
         requires line { ⌜ first .words .line ≡ first .at .line ⌝ }
-        requires fits { ⌜ end (first .words) ≤ 32768 ⌝ }
+        requires fits { ⌜ lineEnd (first .words) ≤ 32768 ⌝ }
         ensures sheet { λ _. ⌜ now (self .exit) .sheet ≡ now (self .entry) .sheet ⌝ }
         ensures read { λ r. ⌜ Cases r (λ _. TaskRead (first .entry) (now (self .entry)) (noted (now (places .entry))) (entryOf (now (task .exit))) (now (self .exit)))
             (λ e. TaskFails (first .entry) (now (self .entry)) (noted (now (places .entry))) e) ⌝ }

@@ -1,6 +1,5 @@
 use mathlib.Core.Path.{sym, _∙_}
 use native.Mathlib.Omega.{arith}
-use Rattle.std.proofs.shelf.Tests.{le-leb, lt-leb, cond-true, cond-false}
 use borrow.Author.Needs.{needs}
 use Rattle.sheet.proofs.Figures.{ten-more, figure-more, figure-stop, figure-all}
 use Rattle.sheet.proofs.numeral.figures.Needs as need
@@ -14,8 +13,5 @@ loop-b-again c = (
   c .loop-b .inv .1 ∙ figure-more (c .args .word .now) (c .loop-b .b-index) (c .loop-b .value) (omega arith) (sym (c .if-not-is-ascii-digit .ensures tt .value)),
 )
 
-pub returns-then-value-gt65535 : need.returns-then-value-gt65535
-returns-then-value-gt65535 c = search (needs, figure-all, lt-leb)
-
-pub returns-else-value-gt65535 : need.returns-else-value-gt65535
-returns-else-value-gt65535 c = search (needs, figure-all)
+pub returns : need.returns
+returns c = search (needs, figure-all)

@@ -21,10 +21,13 @@ use Rattle.marking.specs.Marks.{Judged, Decided}
 use Rattle.marking.specs.declared.verdict.Verdict.{Verdict}
 use Rattle.marking.specs.declared.verdict.Verdict.the-variants.{Wrong, Long, Only, Several}
 
+pub shortest-length-of : (m : Meaning) (laws : FieldLaws m) (w : List ℕ) (dw : Digits m w) (l : ℕ) → l ≡ steps m w .l → ShortestLength m w l
+shortest-length-of m laws w dw l e = record { taps = registerOf (steps m w); shortest = shortest m laws w dw; long = register-length (steps m w) ∙ sym e }
+
 module _ (m : Meaning) (laws : FieldLaws m) (w claim : List ℕ) (dw : Digits m w) (dc : Digits m claim) (l : ℕ) (e : l ≡ steps m w .l) where
   decided : Generates m claim w → (v : Verdict) → Decided (length claim) l (length w) v → Judged m w claim v
   decided g (Wrong place) d = absurd d
-  decided g (Long excess) d = (g, d .0, (l, record { taps = registerOf (steps m w); shortest = shortest m laws w dw; long = register-length (steps m w) ∙ sym e }, d .1))
+  decided g (Long excess) d = (g, d .0, (l, shortest-length-of m laws w dw l e, d .1))
   decided g Only d =
       let x = shortest-from m laws w dw claim dc g (omega arith) in
       let long = shortest-length m laws w dw claim x in

@@ -1,7 +1,7 @@
 -- The mark of a claim on a string. Assumes nothing.
 --   Judged m w claim v      what the verdict v says of the claim: it breaks the rule at that place and not before; it generates w and is so much
 --                           longer than a shortest register; it is a shortest one and no other of its length generates w, or another does
---   Marked m w claim k      the mark k has such a verdict, and the length and the count of Massey's steps over w
+--   Marked m w claim k      the mark k has such a verdict, the length of a shortest register, and the count of Massey's steps over w
 --   Decided ..              the verdict on a claim that generates w, by lengths
 --   OneVerdict              no claim has two verdicts
 --   claimRefusal m w claim  why a claim is refused: too many taps, too many digits, a tap or a digit that is none
@@ -36,6 +36,7 @@ Judged m w claim Several = Shortest m w claim × Another m w claim
 
 pub record Marked (m : Meaning) (w claim : List ℕ) (k : Mark) : Type 0 where
   pub judged : Judged m w claim (k .verdict)
+  pub shortest : ShortestLength m w (k .length)
   pub length-is : k .length ≡ steps m w .l
   pub count-is : k .count ≡ steps m w .count
 

@@ -7,6 +7,7 @@ ghost use Rattle.std.specs.declared.result.Result.the-variants.{Ok, Err};
 ghost use Rattle.field.specs.Meaning.{Meaning};
 ghost use Rattle.field.specs.Refusals.{refusalOf};
 ghost use Rattle.massey.specs.Steps.{steps};
+ghost use Rattle.massey.specs.Theorems.{ShortestLength};
 ghost use Rattle.register.specs.Strings.{Digits, Generates, Breaks};
 ghost use Rattle.synthesis.specs.Scratch.{scratchCells, cleared};
 ghost use Rattle.marking.specs.Marks.{Judged, Marked, Decided, OneVerdict, claimRefusal, markRefusal};
@@ -46,7 +47,8 @@ pub(crate) fn judge<F: Field>(
     requires given { ⌜ Digits (means (now field)) (now digits) ⌝ }
     requires broken { ⌜ BySome broken (Generates (means (now field)) (now claim) (now digits)) (λ j. Breaks (means (now field)) (now claim) (now digits) j) ⌝ }
     requires length { ⌜ (made (now field) → shortest .length ≡ steps (means (now field)) (now digits) .l) ⌝ }
-    ensures { λ r. ⌜ (made (now (field .entry)) → Judged (means (now (field .entry))) (now (digits .entry)) (now (claim .entry)) r) ⌝ }
+    ensures judged { λ r. ⌜ (made (now (field .entry)) → Judged (means (now (field .entry))) (now (digits .entry)) (now (claim .entry)) r) ⌝ }
+    ensures shortest { λ _. ⌜ (made (now (field .entry)) → ShortestLength (means (now (field .entry))) (now (digits .entry)) (shortest .length)) ⌝ }
 {
     decide(broken, claim.len(), shortest.length, digits.len())
 }

@@ -1,13 +1,11 @@
 -- A sheet, task by task. Assumes nothing.
-use mathlib.Core.Path.{_≡_, refl, sym, ap, ap₂, _∙_, subst}
+use mathlib.Core.Path.{_≡_, refl, sym, ap, _∙_, subst}
 use mathlib.Core.List.{List, [], _∷_, _++_}
 use Prim.Native.Nat.{ℕ, _+_}
 use lib.ListN.{length, length-append}
-use Rattle.std.specs.declared.result.Result.the-variants.{Ok, Err}
-use Rattle.sheet.specs.Form.{Entry, places}
+use Rattle.sheet.specs.Form.{Entry}
 use Rattle.sheet.specs.Faults.{faultOf}
 use Rattle.sheet.specs.Calls.{ByNext, Opens, NextTask, NoTask, Refuses}
-use Rattle.sheet.specs.Lines.{stopped}
 use Rattle.sheet.specs.declared.fault.SheetFault.{SheetFault}
 use Rattle.sheet.specs.declared.reader.Reader.{Reader}
 use Rattle.sheet.specs.declared.task.Next.{Next}

@@ -1,6 +1,5 @@
 -- What an operand counts as. Assumes nothing.
 use mathlib.Core.Path.{_≡_}
-use mathlib.Core.Bool.{cond}
 use Prim.Native.Nat.{ℕ, _<_}
 use lib.Dec.{ltb}
 use Rattle.field.specs.Meaning.{Meaning, digit}

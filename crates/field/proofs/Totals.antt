@@ -1,6 +1,6 @@
 -- The laws with no condition on the operands, since what is no digit counts as 0. Assumes nothing.
-use mathlib.Core.Path.{_≡_, refl, sym, ap, ap₂, _∙_}
-use Prim.Native.Nat.{ℕ, _<_, _≤_}
+use mathlib.Core.Path.{_≡_, sym, ap, ap₂, _∙_}
+use Prim.Native.Nat.{ℕ, _<_}
 use native.Mathlib.Omega.{arith}
 use Rattle.field.specs.Meaning.{Meaning, digit, add, multiply}
 use Rattle.field.specs.Laws.{RingLaws}

@@ -2,7 +2,7 @@
 use mathlib.Core.Path.{_≡_, refl, sym, ap, _∙_, subst}
 use mathlib.Core.Logic.{⊎-elim}
 use mathlib.Core.List.{List}
-use Prim.Native.Nat.{ℕ, suc, _+_, _-_, _*_, _≤_, _<_}
+use Prim.Native.Nat.{ℕ, _+_, _-_, _<_}
 use native.Mathlib.Omega.{arith}
 use lib.ListN.{length}
 use Rattle.std.specs.Options.{Cases}
@@ -13,7 +13,7 @@ use Rattle.field.specs.Laws.{FieldLaws}
 use Rattle.field.specs.Meaning.{Meaning}
 use Rattle.register.specs.Strings.{Digits, Generates, Breaks}
 use Rattle.massey.specs.Steps.{steps}
-use Rattle.massey.specs.Theorems.{registerOf, Shortest, ShortestLength, Another}
+use Rattle.massey.specs.Theorems.{registerOf, Shortest, ShortestLength}
 use Rattle.massey.proofs.Registers.{register-length, breaks-not}
 use Rattle.massey.proofs.Shortest.{shortest-from, shortest-length, another-shortest}
 use Rattle.massey.proofs.Strings.{shortest}

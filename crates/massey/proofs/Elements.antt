@@ -8,7 +8,7 @@ use Rattle.std.proofs.shelf.Tests.{eqb-true, eqb-false}
 use Rattle.field.specs.Meaning.{Meaning, digit, add, multiply}
 use Rattle.field.specs.Laws.{RingLaws, FieldLaws}
 use Rattle.field.specs.Operations.{Operations, negative, inverse}
-use Rattle.field.proofs.Digits.{digit-lt, digit-same}
+use Rattle.field.proofs.Digits.{digit-same}
 use Rattle.field.proofs.Totals as totals
 use Rattle.field.proofs.Unique.{the-lt, negative-lt, add-negative, inverts-some}
 use Rattle.massey.proofs.Fields.{IsField}

@@ -1,6 +1,6 @@
 -- One line cut off the rest of the sheet, and the end of the sheet.
 use mathlib.Core.Path.{_≡_, refl, sym, ap, _∙_}
-use mathlib.Core.Bool.{cond, _&&_}
+use mathlib.Core.Bool.{_&&_}
 use mathlib.Core.Logic.{⊎-elim}
 use mathlib.Core.List.{List, [], _∷_}
 use Prim.Native.Nat.{ℕ, _+_, _≤_, _<_}
@@ -18,7 +18,7 @@ use Rattle.sheet.specs.Reading.{spot, Opened, opened}
 use Rattle.sheet.specs.Split.{prepend, split, after}
 use Rattle.sheet.specs.declared.fault.LineFault.{LineFault}
 use Rattle.sheet.specs.declared.fault.SheetFault.{SheetFault}
-use Rattle.sheet.specs.declared.fault.SheetFault.the-variants.{Order, Line}
+use Rattle.sheet.specs.declared.fault.SheetFault.the-variants.{Order}
 
 -- what an opened line leads to
 abbrev goesTo : ℕ → ℕ → List Entry → Due → (List Entry → Due → Outcome) → Result (Unit {0}) SheetFault → Result Opened LineFault → Outcome

@@ -1,20 +1,19 @@
 -- Steps of the loop over a word's figures.
-use mathlib.Core.Path.{_≡_, refl, sym, ap, subst, _∙_}
-use mathlib.Core.Logic.{_⊎_, inl, inr, ⊎-elim}
-use mathlib.Core.Bool.{Bool, true, false, cond, _&&_, _||_}
+use mathlib.Core.Path.{_≡_, sym, ap, _∙_}
+use mathlib.Core.Logic.{_⊎_, ⊎-elim}
+use mathlib.Core.Bool.{true, false}
 use mathlib.Core.List.{List, [], _∷_}
-use Prim.Native.Nat.{ℕ, suc, _+_, _-_, _*_, _^_, _≤_, _<_}
+use Prim.Native.Nat.{ℕ, _+_, _-_, _*_, _^_, _≤_, _<_}
 use native.Mathlib.Nat.{pow-suc}
 use native.Mathlib.Numerals.{add-one}
 use native.Mathlib.Omega.{arith}
-use lib.Dec.{leb, ltb, eqb}
+use lib.Dec.{leb}
 use lib.ListN.{length, getD, drop}
-use borrow.Author.Needs.{needs}
 use Rattle.std.specs.declared.option.Option.{Option}
 use Rattle.std.specs.declared.option.Option.the-variants.{Some, None}
 use Rattle.std.proofs.shelf.Lists.{at-drop-more, at-drop-all}
-use Rattle.std.proofs.shelf.Tests.{le-leb, lt-leb, leb-true, eqb-true, eqb-false, ltb-true, ltb-false, ne-eqb, eq-eqb, le-ltb, lt-ltb, cond-true, cond-false, cases-lt, cases-eq, cases-bool, and-parts, and-cases, and-from, and-left, and-right, or-parts, or-from}
-use Rattle.sheet.specs.Numeral.{Figure, Figures, valueAfter, Number, isFigure, figuresAfter, misshapen, atMost, numeral}
+use Rattle.std.proofs.shelf.Tests.{le-leb, leb-true, eqb-false, ltb-false, ne-eqb, le-ltb, cond-true, cond-false, cases-lt, cases-eq, cases-bool, and-parts, and-cases, and-from, and-left, and-right, or-parts, or-from}
+use Rattle.sheet.specs.Numeral.{Figures, valueAfter, Number, isFigure, figuresAfter, misshapen, atMost, numeral}
 
 pub figure : (b : ℕ) → 48 ≤ b → b ≤ 57 → isFigure b ≡ true
 figure b l h = and-from _ _ (le-leb 48 b l) (le-leb b 57 h)

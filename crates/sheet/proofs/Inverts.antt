@@ -1,9 +1,8 @@
 -- What is known of the words of a line that was read.
 use mathlib.Core.Path.{_≡_, refl, sym, ap, subst, _∙_}
 use mathlib.Core.Bool.{Bool, true, false, cond, _&&_}
-use mathlib.Core.Logic.{_⊎_, inl, inr, ⊎-elim}
 use mathlib.Core.List.{List, [], _∷_, _++_, append-nil, append-assoc}
-use Prim.Native.Nat.{ℕ, _+_, _≤_, _<_}
+use Prim.Native.Nat.{ℕ, _+_}
 use native.Mathlib.Omega.{arith}
 use lib.Dec.{eqb}
 use lib.ListN.{length}
@@ -13,13 +12,13 @@ use Rattle.std.specs.declared.option.Option.the-variants.{Some, None}
 use Rattle.std.specs.declared.result.Result.{Result}
 use Rattle.std.specs.declared.result.Result.the-variants.{Ok, Err}
 use Rattle.std.proofs.shelf.Lists.{nil-from-length}
-use Rattle.std.proofs.shelf.Tests.{eq-eqb, ne-eqb, eqb-true, cond-true, cond-false, cases-bool, and-parts}
+use Rattle.std.proofs.shelf.Tests.{eq-eqb, ne-eqb, eqb-true, cond-true, cond-false, and-parts}
 use Rattle.sheet.proofs.Figures.{numeral-sound, numeral-complete}
 use Rattle.sheet.proofs.Known.{number-kind, keyword-sound, field-sound, keyword-is, name-is}
 use Rattle.sheet.specs.Form.{Entry, AreNumbers}
-use Rattle.sheet.specs.Lines.{Stopped, Outcome, orStop, asSheet, placeDue, placesAfter, ended}
+use Rattle.sheet.specs.Lines.{Outcome, orStop, asSheet, placeDue, placesAfter, ended}
 use Rattle.sheet.specs.Names.{keyword, fieldName}
-use Rattle.sheet.specs.Numeral.{Number, numeral}
+use Rattle.sheet.specs.Numeral.{Number}
 use Rattle.sheet.specs.Words.{kindOf, asKeyword, asName, asNumber}
 use Rattle.sheet.specs.Reading.{spot, andThen, numberOf, asLine, numberDue, numbersAfter, noMore, fieldAfter, Opened, opened}
 use Rattle.sheet.specs.declared.fault.At.{At}

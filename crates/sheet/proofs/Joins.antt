@@ -1,16 +1,16 @@
 -- Pieces joined are split again, and the other way round.
-use mathlib.Core.Path.{_≡_, refl, sym, ap, subst, _∙_}
+use mathlib.Core.Path.{_≡_, refl, sym, ap, _∙_}
 use mathlib.Core.Bool.{Bool, true, false, cond}
-use mathlib.Core.Logic.{_⊎_, inl, inr, ⊎-elim}
-use mathlib.Core.List.{List, [], _∷_, _++_, append-nil, append-assoc}
-use Prim.Native.Nat.{ℕ, _+_, _≤_, _<_}
+use mathlib.Core.Logic.{_⊎_, ⊎-elim}
+use mathlib.Core.List.{List, [], _∷_, _++_, append-nil}
+use Prim.Native.Nat.{ℕ, _+_, _<_}
 use native.Mathlib.Omega.{arith}
 use lib.Dec.{eqb}
 use lib.ListN.{length}
 use Rattle.std.proofs.shelf.Tests.{eq-eqb, ne-eqb, eqb-true, cond-true, cond-false, cond-both, cases-bool, both-ways}
 use Rattle.sheet.proofs.Splits.{split-some}
 use Rattle.sheet.specs.Form.{behind, AreNumbers}
-use Rattle.sheet.specs.Numeral.{Number, Figures}
+use Rattle.sheet.specs.Numeral.{Figures}
 use Rattle.sheet.specs.Split.{prepend, split}
 
 -- no byte of the text is the stop

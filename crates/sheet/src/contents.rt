@@ -1,4 +1,4 @@
-//! What the rest of a line holds: numbers, or one field name.
+// What the rest of a line holds: numbers, or one field name.
 ghost use mathlib.Core.List.{[]};
 ghost use mathlib.Core.Path.{_≡_};
 ghost use Prim.Native.Nat.{_≤_};

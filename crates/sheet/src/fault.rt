@@ -1,4 +1,4 @@
-//! What can be wrong with a sheet, in three layers.
+// What can be wrong with a sheet, in three layers.
 ghost use mathlib.Core.Path.{_≡_};
 ghost use Rattle.sheet.specs.Faults.{faultOf};
 ghost use Rattle.sheet.specs.declared.fault.LineFault.the-variants.{Number as NoNumber};

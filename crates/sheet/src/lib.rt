@@ -1,4 +1,4 @@
-//! Reads a sheet of tasks, task by task, on the sheet's own bytes.
+// Reads a sheet of tasks, task by task, on the sheet's own bytes.
 mod contents;
 mod exact;
 mod fault;

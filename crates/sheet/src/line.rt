@@ -1,4 +1,4 @@
-//! A line of the sheet.
+// A line of the sheet.
 use crate::fault::At;
 use crate::names::Keyword;
 

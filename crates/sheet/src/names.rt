@@ -1,4 +1,4 @@
-//! The keywords and the field names that a sheet knows.
+// The keywords and the field names that a sheet knows.
 ghost use mathlib.Core.Path.{_≡_};
 ghost use Rattle.std.specs.shelf.Text.{sameBytes};
 ghost use Rattle.sheet.specs.Names.{defaultField, keywordOf, fieldOf};

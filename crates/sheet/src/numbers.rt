@@ -1,4 +1,4 @@
-//! A fixed list of the numbers of a line.
+// A fixed list of the numbers of a line.
 ghost use mathlib.Core.Path.{_≡_};
 ghost use Prim.Native.Nat.{_≤_};
 ghost use lib.ListN.{length, take};

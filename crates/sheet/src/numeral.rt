@@ -1,4 +1,4 @@
-//! A number of the sheet.
+// A number of the sheet.
 ghost use mathlib.Core.Path.{_≡_};
 ghost use Prim.Native.Nat.{_≤_};
 ghost use lib.ListN.{length};

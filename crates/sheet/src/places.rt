@@ -1,4 +1,4 @@
-//! A fixed list of the places of tasks.
+// A fixed list of the places of tasks.
 ghost use mathlib.Core.Path.{_≡_};
 ghost use Prim.Native.Nat.{_≤_};
 ghost use lib.ListN.{length, take};

@@ -1,4 +1,4 @@
-//! A place in the sheet where a line begins.
+// A place in the sheet where a line begins.
 ghost use Prim.Native.Nat.{_+_, _≤_};
 ghost use lib.ListN.{length};
 

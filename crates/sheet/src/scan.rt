@@ -1,4 +1,4 @@
-//! Takes words off a line.
+// Takes words off a line.
 ghost use mathlib.Core.List.{[], _∷_};
 ghost use mathlib.Core.Path.{_≡_};
 ghost use Prim.Native.Nat.{_+_, _≤_};

@@ -1,4 +1,4 @@
-//! A task of the sheet.
+// A task of the sheet.
 ghost use mathlib.Core.Path.{_≡_};
 ghost use Rattle.sheet.specs.Views.{entryOf, emptyEntry};
 use crate::names::FieldName;

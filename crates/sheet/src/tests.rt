@@ -1,4 +1,4 @@
-//! Small sheets with their faults, or none.
+// Small sheets with their faults, or none.
 use crate::Fault;
 use crate::FaultDebug;
 use crate::FaultPartialEq;

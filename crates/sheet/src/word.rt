@@ -1,4 +1,4 @@
-//! A word of the sheet, told with its kind and its place.
+// A word of the sheet, told with its kind and its place.
 ghost use mathlib.Core.Path.{_≡_};
 ghost use Prim.Native.Nat.{_<_};
 ghost use lib.ListN.{length};

@@ -1,7 +1,7 @@
 // The register of a state, written into cells.
-ghost use mathlib.Core.List.{List, _++_};
+ghost use mathlib.Core.List.{_++_};
 ghost use mathlib.Core.Path.{_≡_};
-ghost use Prim.Native.Nat.{ℕ, _+_, _-_, _≤_};
+ghost use Prim.Native.Nat.{_≤_};
 ghost use lib.ListN.{length, take, drop};
 ghost use Rattle.field.specs.Meaning.{Meaning};
 ghost use Rattle.massey.specs.Steps.{steps};

@@ -1,4 +1,4 @@
-//! What is held in the list of numbers.
+// What is held in the list of numbers.
 ghost use mathlib.Core.List.{[], _∷_, _++_};
 ghost use mathlib.Core.Path.{_≡_};
 ghost use Prim.Native.Nat.{_+_, _<_};

@@ -1,4 +1,4 @@
-//! What is held in the list of places.
+// What is held in the list of places.
 ghost use mathlib.Core.List.{List, [], _∷_, _++_};
 ghost use mathlib.Core.Path.{_≡_};
 ghost use Prim.Native.Nat.{_<_};

@@ -1,4 +1,4 @@
-//! The lines of the sheet, from first to last.
+// The lines of the sheet, from first to last.
 ghost use mathlib.Core.Path.{_≡_};
 ghost use Rattle.std.specs.Results.{Cases};
 ghost use Rattle.sheet.specs.Calls.{Opens};

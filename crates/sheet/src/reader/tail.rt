@@ -1,4 +1,4 @@
-//! The tail line.
+// The tail line.
 ghost use mathlib.Core.List.{[]};
 ghost use mathlib.Core.Path.{_≡_};
 ghost use Prim.Native.Nat.{_≤_};

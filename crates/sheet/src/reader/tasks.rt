@@ -1,4 +1,4 @@
-//! The tasks of the sheet, one at a time.
+// The tasks of the sheet, one at a time.
 ghost use mathlib.Core.Path.{_≡_};
 ghost use Prim.Native.Nat.{_≤_};
 ghost use Rattle.std.specs.Results.{Cases};

@@ -1,4 +1,3 @@
-use native.Mathlib.Omega.{arith}
 use borrow.Author.Needs.{needs}
 use Rattle.sheet.proofs.Splits.{cut-at, cut-none}
 use Rattle.sheet.proofs.scan.find.Needs as need

@@ -32,6 +32,3 @@ pub use places::Places;
 pub use reader::Reader;
 pub use task::Next;
 pub use task::Task;
-
-#[cfg(test)]
-mod tests;

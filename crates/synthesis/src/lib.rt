@@ -15,8 +15,6 @@ mod showing;
 mod shown;
 mod state;
 mod step;
-#[cfg(test)]
-mod tests;
 mod trimming;
 
 pub use analyser::Analyser;

@@ -1,5 +1,7 @@
 // Examples and edges of the calls, over fields of every kind.
 #[cfg(test)]
+mod analysers;
+#[cfg(test)]
 mod fields;
 #[cfg(test)]
 mod marks;

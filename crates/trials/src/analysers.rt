@@ -1,11 +1,11 @@
 // Strings with their registers, and each limit beside the value on its other side.
-use crate::Analyser;
-use crate::Call;
-use crate::run_calls;
 use field::RefusalDebug;
 use residues::Residues;
 use residues::ResiduesField;
 use std::test::*;
+use synthesis::Analyser;
+use synthesis::Call;
+use synthesis::run_calls;
 
 #[test]
 fn four_bits_have_two_registers() -> Result<(), Fail> {

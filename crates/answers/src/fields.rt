@@ -18,7 +18,7 @@ use table::Table;
 
 fn answer_over<F: Field>(field: &F, digits: &[u16], claim: &[u16], scratch: &mut [u16]) -> Answer
     requires { length scratch.old ≡ scratch_cells_for 256 }
-    ensures { made field.now → AnsweredOver (means field.now) digits.now claim.now result }
+    ensures { F.made field.now → AnsweredOver (F.means field.now) digits.now claim.now result }
 {
     match mark_claim(field, digits, claim, scratch) {
         Ok(mark) => Answer::Marked(mark),

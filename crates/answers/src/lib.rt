@@ -1,4 +1,6 @@
 // The answer to a whole sheet: the mark of each task, or the sheet's first fault.
+#![tactic(auto)]
+
 mod answer;
 mod facts;
 mod fields;

@@ -6,42 +6,42 @@ ghost use Rattle.field.specs.Operations.{negative, inverse};
 use crate::traits::Field;
 
 pub fn is_digit<F: Field>(field: &F, a: u16) -> bool
-    ensures { result ≡ nat_lt a (means field.now).order }
+    ensures { result ≡ nat_lt a (F.means field.now).order }
 {
     (a as u32) < field.size()
 }
 
 // a − b.
 pub fn subtract<F: Field>(field: &F, a: u16, b: u16) -> u16
-    ensures { made field.now → result ≡ add (means field.now) a (negative (means field.now) b) }
+    ensures { F.made field.now → result ≡ add (F.means field.now) a (negative (F.means field.now) b) }
 {
     field.add(a, negated(field, b))
 }
 
 // a times the inverse of b, which counts as 0 where b has none.
 pub fn divide<F: Field>(field: &F, a: u16, b: u16) -> u16
-    ensures { made field.now → result ≡ multiply (means field.now) a (inverse (means field.now) b) }
+    ensures { F.made field.now → result ≡ multiply (F.means field.now) a (inverse (F.means field.now) b) }
 {
     field.multiply(a, inverted(field, b))
 }
 
 // −a.
 pub fn negated<F: Field>(field: &F, a: u16) -> u16
-    ensures { made field.now → result ≡ negative (means field.now) a }
+    ensures { F.made field.now → result ≡ negative (F.means field.now) a }
 {
     only_negative(field, a)
 }
 
 // The laws leave one negative.
 fn only_negative<F: Field>(field: &F, a: u16) -> u16
-    ensures { made field.now → result ≡ negative (means field.now) a }
+    ensures { F.made field.now → result ≡ negative (F.means field.now) a }
 {
     field.negate(a)
 }
 
 // The laws leave one inverse.
 fn inverted<F: Field>(field: &F, a: u16) -> u16
-    ensures { made field.now → result ≡ inverse (means field.now) a }
+    ensures { F.made field.now → result ≡ inverse (F.means field.now) a }
 {
     match field.invert(a) {
         Some(inverse) => inverse,

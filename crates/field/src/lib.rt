@@ -1,4 +1,6 @@
 // Finite fields by their digits: what a field means, its laws, and the refusals that all calls over fields share.
+#![tactic(auto)]
+
 mod arithmetic;
 mod refusal;
 mod traits;

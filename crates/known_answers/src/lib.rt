@@ -1,4 +1,6 @@
 // Strings whose shortest registers are known.
+#![tactic(auto)]
+
 mod theorem;
 
 pub use theorem::known_answers;

@@ -1,4 +1,6 @@
 // Marks the sheet on standard input: one line for each task, or one for the sheet's first fault.
+#![tactic(auto)]
+
 use answers::{Line, answer_sheet};
 use std::io;
 use std::io::Read;

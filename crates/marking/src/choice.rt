@@ -38,8 +38,8 @@ pub fn better<'a, F: Field>(
     second: &'a [u16],
     scratch: &mut [u16],
 ) -> Result<&'a [u16], Refusal>
-    ensures refused { refusal_of result ≡ better_refusal (means field.now) digits.now first.now second.now (length scratch.old) }
-    ensures chosen { elim result [ Ok t ↦ (made field.now → Better (means field.now) digits.now first.now second.now t.now) | Err e ↦ Unit {0} ] }
+    ensures refused { refusal_of result ≡ better_refusal (F.means field.now) digits.now first.now second.now (length scratch.old) }
+    ensures chosen { elim result [ Ok t ↦ (F.made field.now → Better (F.means field.now) digits.now first.now second.now t.now) | Err e ↦ Unit {0} ] }
     ensures scratch { elim result [ Ok t ↦ scratch.new ≡ cleared (scratch_cells_for (length digits.now)) scratch.old | Err e ↦ scratch.new ≡ scratch.old ] }
 {
     let broken = test_claim(field, digits, first)?;

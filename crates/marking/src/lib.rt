@@ -1,4 +1,6 @@
 // Marks for claimed registers.
+#![tactic(auto)]
+
 mod choice;
 mod marks;
 mod verdict;

@@ -35,12 +35,12 @@ pub(crate) fn judge<F: Field>(
     broken: Option<usize>,
     shortest: Shortest,
 ) -> Verdict
-    requires claimed { Digits (means field.now) claim.now }
-    requires given { Digits (means field.now) digits.now }
-    requires broken { MatchOption broken (Generates (means field.now) claim.now digits.now) (λ j. Breaks (means field.now) claim.now digits.now j) }
-    requires length { made field.now → shortest.length ≡ (steps (means field.now) digits.now).l }
-    ensures judged { made field.now → Judged (means field.now) digits.now claim.now result }
-    ensures shortest { made field.now → ShortestLength (means field.now) digits.now shortest.length }
+    requires claimed { Digits (F.means field.now) claim.now }
+    requires given { Digits (F.means field.now) digits.now }
+    requires broken { MatchOption broken (Generates (F.means field.now) claim.now digits.now) (λ j. Breaks (F.means field.now) claim.now digits.now j) }
+    requires length { F.made field.now → shortest.length ≡ (steps (F.means field.now) digits.now).l }
+    ensures judged { F.made field.now → Judged (F.means field.now) digits.now claim.now result }
+    ensures shortest { F.made field.now → ShortestLength (F.means field.now) digits.now shortest.length }
 {
     decide(broken, claim.len(), shortest.length, digits.len())
 }
@@ -51,9 +51,9 @@ pub(crate) fn test_claim<F: Field>(
     digits: &[u16],
     claim: &[u16],
 ) -> Result<Option<usize>, Refusal>
-    ensures refused { refusal_of result ≡ claim_refusal (means field.now) digits.now claim.now }
-    ensures digits { elim result [ Ok o ↦ Digits (means field.now) claim.now × Digits (means field.now) digits.now | Err e ↦ Unit {0} ] }
-    ensures place { elim result [ Ok o ↦ MatchOption o (Generates (means field.now) claim.now digits.now) (λ j. Breaks (means field.now) claim.now digits.now j) | Err e ↦ Unit {0} ] }
+    ensures refused { refusal_of result ≡ claim_refusal (F.means field.now) digits.now claim.now }
+    ensures digits { elim result [ Ok o ↦ Digits (F.means field.now) claim.now × Digits (F.means field.now) digits.now | Err e ↦ Unit {0} ] }
+    ensures place { elim result [ Ok o ↦ MatchOption o (Generates (F.means field.now) claim.now digits.now) (λ j. Breaks (F.means field.now) claim.now digits.now j) | Err e ↦ Unit {0} ] }
 {
     let mut register = Register::new();
     register.build(claim)?;
@@ -70,8 +70,8 @@ pub fn mark_claim<F: Field>(
     claim: &[u16],
     scratch: &mut [u16],
 ) -> Result<Mark, Refusal>
-    ensures refused { refusal_of result ≡ mark_refusal (means field.now) digits.now claim.now (length scratch.old) }
-    ensures marked { elim result [ Ok k ↦ (made field.now → Marked (means field.now) digits.now claim.now k) | Err e ↦ Unit {0} ] }
+    ensures refused { refusal_of result ≡ mark_refusal (F.means field.now) digits.now claim.now (length scratch.old) }
+    ensures marked { elim result [ Ok k ↦ (F.made field.now → Marked (F.means field.now) digits.now claim.now k) | Err e ↦ Unit {0} ] }
     ensures scratch { elim result [ Ok k ↦ scratch.new ≡ cleared (scratch_cells_for (length digits.now)) scratch.old | Err e ↦ scratch.new ≡ scratch.old ] }
 {
     let broken = test_claim(field, digits, claim)?;

@@ -1,4 +1,6 @@
 // Massey's steps and what holds of them, over every field that keeps the laws.
+#![tactic(auto)]
+
 mod theorems;
 
 pub use theorems::{

@@ -1,4 +1,6 @@
 // Registers and what they generate.
+#![tactic(auto)]
+
 mod build;
 mod correction;
 mod facts;

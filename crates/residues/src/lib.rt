@@ -1,4 +1,6 @@
 // The residues modulo a prime, as a field.
+#![tactic(auto)]
+
 mod arithmetic;
 mod inverse;
 mod make;

@@ -1,4 +1,6 @@
 // Reads a sheet of tasks, task by task, on the sheet's own bytes.
+#![tactic(auto)]
+
 mod contents;
 mod exact;
 mod fault;

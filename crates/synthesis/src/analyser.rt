@@ -31,7 +31,7 @@ impl<F: Field> Analyser<F> {
     pub fn new(field: F) -> Analyser<F>
         ensures field { result.field ≡ field }
         ensures kept { kept result.state ≡ [] }
-        ensures sound { made field → Sound (means field) result.state }
+        ensures sound { F.made field → Sound (F.means field) result.state }
     {
         Analyser {
             field,
@@ -41,12 +41,12 @@ impl<F: Field> Analyser<F> {
 
     /// Takes the digit s, and answers the discrepancy there and the length of the register that it leaves.
     pub fn feed(&mut self, s: u16) -> Result<(u16, u16), Refusal>
-        ensures refused { refusal_of result ≡ feed_refusal (means self.old.field).order (kept self.old.state) s }
+        ensures refused { refusal_of result ≡ feed_refusal (F.means self.old.field).order (kept self.old.state) s }
         ensures field { self.new.field ≡ self.old.field }
-        ensures kept { kept self.new.state ≡ fed (means self.old.field).order (kept self.old.state) s }
+        ensures kept { kept self.new.state ≡ fed (F.means self.old.field).order (kept self.old.state) s }
         ensures same { elim result [ Ok p ↦ Unit {0} | Err e ↦ self.new ≡ self.old ] }
-        ensures sound { made self.old.field → Sound (means self.old.field) self.old.state → Sound (means self.old.field) self.new.state }
-        ensures pair { made self.old.field → Sound (means self.old.field) self.old.state → elim result [ Ok p ↦ (p.0 ≡ leaves (means self.old.field) (kept self.old.state) s) × (p.1 ≡ (steps (means self.old.field) (kept self.new.state)).l) | Err e ↦ Unit {0} ] }
+        ensures sound { F.made self.old.field → Sound (F.means self.old.field) self.old.state → Sound (F.means self.old.field) self.new.state }
+        ensures pair { F.made self.old.field → Sound (F.means self.old.field) self.old.state → elim result [ Ok p ↦ (p.0 ≡ leaves (F.means self.old.field) (kept self.old.state) s) × (p.1 ≡ (steps (F.means self.old.field) (kept self.new.state)).l) | Err e ↦ Unit {0} ] }
     {
         if self.state.progress.taken >= MOST_DIGITS {
             return Err(Refusal::TooManyDigits);
@@ -60,18 +60,18 @@ impl<F: Field> Analyser<F> {
 
     /// The one digit that the register gives next: fed, it would leave no discrepancy.
     pub fn expect(&self) -> u16
-        ensures value { Sound (means self.now.field) self.now.state → result ≡ expected_after (means self.now.field) (kept self.now.state) }
-        ensures expected { Sound (means self.now.field) self.now.state → Expected (means self.now.field) (kept self.now.state) result }
+        ensures value { Sound (F.means self.now.field) self.now.state → result ≡ expected_after (F.means self.now.field) (kept self.now.state) }
+        ensures expected { Sound (F.means self.now.field) self.now.state → Expected (F.means self.now.field) (kept self.now.state) result }
     {
         next_digit(&self.field, &self.state)
     }
 
     /// Writes the taps of the register into the first cells.
     pub fn show(&self, cells: &mut [u16]) -> Result<Shown, Refusal>
-        ensures refused { Sound (means self.now.field) self.now.state → refusal_of result ≡ room_refusal (steps (means self.now.field) (kept self.now.state)).l (length cells.old) }
+        ensures refused { Sound (F.means self.now.field) self.now.state → refusal_of result ≡ room_refusal (steps (F.means self.now.field) (kept self.now.state)).l (length cells.old) }
         ensures same { elim result [ Ok t ↦ Unit {0} | Err e ↦ cells.new ≡ cells.old ] }
-        ensures shown { Sound (means self.now.field) self.now.state → elim result [ Ok t ↦ ShownOf (means self.now.field) (kept self.now.state) t × (cells.new ≡ overwritten (register_of (steps (means self.now.field) (kept self.now.state))) cells.old) | Err e ↦ Unit {0} ] }
-        ensures promised { Sound (means self.now.field) self.now.state → Promised (means self.now.field) (kept self.now.state) (register_of (steps (means self.now.field) (kept self.now.state))) (steps (means self.now.field) (kept self.now.state)).count }
+        ensures shown { Sound (F.means self.now.field) self.now.state → elim result [ Ok t ↦ ShownOf (F.means self.now.field) (kept self.now.state) t × (cells.new ≡ overwritten (register_of (steps (F.means self.now.field) (kept self.now.state))) cells.old) | Err e ↦ Unit {0} ] }
+        ensures promised { Sound (F.means self.now.field) self.now.state → Promised (F.means self.now.field) (kept self.now.state) (register_of (steps (F.means self.now.field) (kept self.now.state))) (steps (F.means self.now.field) (kept self.now.state)).count }
     {
         progress_counts(&self.state);
         if cells.len() < self.state.progress.length {
@@ -87,10 +87,10 @@ impl<F: Field> Analyser<F> {
 
     /// Writes the taps of another register of the same length, if there is one, and answers the first that differs.
     pub fn other(&self, cells: &mut [u16]) -> Result<Option<usize>, Refusal>
-        ensures refused { Sound (means self.now.field) self.now.state → refusal_of result ≡ room_refusal (other_taps_of (means self.now.field) (kept self.now.state)) (length cells.old) }
+        ensures refused { Sound (F.means self.now.field) self.now.state → refusal_of result ≡ room_refusal (other_taps_of (F.means self.now.field) (kept self.now.state)) (length cells.old) }
         ensures same { elim result [ Ok o ↦ elim o [ Some j ↦ Unit {0} | None ↦ cells.new ≡ cells.old ] | Err e ↦ cells.new ≡ cells.old ] }
-        ensures other { Sound (means self.now.field) self.now.state → elim result [ Ok o ↦ (o ≡ other_answer (means self.now.field) (kept self.now.state)) × OtherWritten (means self.now.field) (kept self.now.state) cells.old cells.new o | Err e ↦ Unit {0} ] }
-        ensures rival { Sound (means self.now.field) self.now.state → elim result [ Ok o ↦ elim o [ Some j ↦ Rival (means self.now.field) (kept self.now.state) (register_of (steps (means self.now.field) (kept self.now.state))) j (other_of (means self.now.field) (steps (means self.now.field) (kept self.now.state))) | None ↦ Unit {0} ] | Err e ↦ Unit {0} ] }
+        ensures other { Sound (F.means self.now.field) self.now.state → elim result [ Ok o ↦ (o ≡ other_answer (F.means self.now.field) (kept self.now.state)) × OtherWritten (F.means self.now.field) (kept self.now.state) cells.old cells.new o | Err e ↦ Unit {0} ] }
+        ensures rival { Sound (F.means self.now.field) self.now.state → elim result [ Ok o ↦ elim o [ Some j ↦ Rival (F.means self.now.field) (kept self.now.state) (register_of (steps (F.means self.now.field) (kept self.now.state))) j (other_of (F.means self.now.field) (steps (F.means self.now.field) (kept self.now.state))) | None ↦ Unit {0} ] | Err e ↦ Unit {0} ] }
     {
         progress_counts(&self.state);
         if 2 * self.state.progress.length <= self.state.progress.taken {
@@ -105,7 +105,7 @@ impl<F: Field> Analyser<F> {
 
     // How many cells `other` writes.
     pub(crate) fn other_taps(&self) -> usize
-        ensures { Sound (means self.now.field) self.now.state → result ≡ other_taps_of (means self.now.field) (kept self.now.state) }
+        ensures { Sound (F.means self.now.field) self.now.state → result ≡ other_taps_of (F.means self.now.field) (kept self.now.state) }
     {
         progress_counts(&self.state);
         if self.state.progress.taken < 2 * self.state.progress.length {
@@ -120,7 +120,7 @@ impl<F: Field> Analyser<F> {
         ensures field { self.new.field ≡ self.old.field }
         ensures kept { kept self.new.state ≡ trimmed (kept self.old.state) t }
         ensures same { elim result [ Ok o ↦ Unit {0} | Err e ↦ self.new ≡ self.old ] }
-        ensures sound { made self.old.field → Sound (means self.old.field) self.old.state → Sound (means self.old.field) self.new.state }
+        ensures sound { F.made self.old.field → Sound (F.means self.old.field) self.old.state → Sound (F.means self.old.field) self.new.state }
     {
         if t > self.state.progress.taken {
             return Err(Refusal::PastTheDigits);

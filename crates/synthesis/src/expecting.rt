@@ -11,7 +11,7 @@ use crate::step::row_feedback;
 use field::Field;
 
 fn negated_feedback<F: Field>(field: &F, state: &State) -> u16
-    ensures { Negates (means field.now) (feedback_of_row (means field.now) state.now.digits state.now.c state.now.progress.length state.now.progress.taken) result }
+    ensures { Negates (F.means field.now) (feedback_of_row (F.means field.now) state.now.digits state.now.c state.now.progress.length state.now.progress.taken) result }
 {
     let p = &state.progress;
     field.negate(row_feedback(field, &state.c, &state.digits, p.length, p.taken))
@@ -19,8 +19,8 @@ fn negated_feedback<F: Field>(field: &F, state: &State) -> u16
 
 // The same, as the digit with no discrepancy.
 pub(crate) fn next_digit<F: Field>(field: &F, state: &State) -> u16
-    ensures value { Sound (means field.now) state.now → result ≡ expected_after (means field.now) (kept state.now) }
-    ensures expected { Sound (means field.now) state.now → Expected (means field.now) (kept state.now) result }
+    ensures value { Sound (F.means field.now) state.now → result ≡ expected_after (F.means field.now) (kept state.now) }
+    ensures expected { Sound (F.means field.now) state.now → Expected (F.means field.now) (kept state.now) result }
 {
     negated_feedback(field, state)
 }

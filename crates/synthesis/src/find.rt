@@ -36,8 +36,8 @@ pub fn has_room(digits: usize, cells: usize) -> bool
 fn find_in<F: Field>(field: &F, digits: &[u16], rows: &mut [u16]) -> Shortest
     requires few { length digits.now ≤ 256 }
     requires room { length rows.old ≡ scratch_cells_for (length digits.now) }
-    ensures length { made field.now → result.length ≡ (steps (means field.now) digits.now).l }
-    ensures count { made field.now → result.count ≡ (steps (means field.now) digits.now).count }
+    ensures length { F.made field.now → result.length ≡ (steps (F.means field.now) digits.now).l }
+    ensures count { F.made field.now → result.count ≡ (steps (F.means field.now) digits.now).count }
 {
     let row = digits.len() + 1;
     let (c, rest) = rows.split_at_mut(row);
@@ -54,8 +54,8 @@ fn find_in_front<F: Field>(field: &F, digits: &[u16], scratch: &mut [u16], cells
     requires few { length digits.now ≤ 256 }
     requires need { cells ≡ scratch_cells_for (length digits.now) }
     requires room { cells ≤ length scratch.old }
-    ensures length { made field.now → result.length ≡ (steps (means field.now) digits.now).l }
-    ensures count { made field.now → result.count ≡ (steps (means field.now) digits.now).count }
+    ensures length { F.made field.now → result.length ≡ (steps (F.means field.now) digits.now).l }
+    ensures count { F.made field.now → result.count ≡ (steps (F.means field.now) digits.now).count }
     ensures scratch { scratch.new ≡ cleared cells scratch.old }
 {
     let found = find_in(field, digits, &mut scratch[0..cells]);
@@ -69,8 +69,8 @@ pub fn find_shortest<F: Field>(
     digits: &[u16],
     scratch: &mut [u16],
 ) -> Result<Shortest, Refusal>
-    ensures refused { refusal_of result ≡ steps_refusal (means field.now) digits.now (length scratch.old) }
-    ensures found { elim result [ Ok s ↦ (made field.now → (s.length ≡ (steps (means field.now) digits.now).l) × (s.count ≡ (steps (means field.now) digits.now).count)) | Err e ↦ Unit {0} ] }
+    ensures refused { refusal_of result ≡ steps_refusal (F.means field.now) digits.now (length scratch.old) }
+    ensures found { elim result [ Ok s ↦ (F.made field.now → (s.length ≡ (steps (F.means field.now) digits.now).l) × (s.count ≡ (steps (F.means field.now) digits.now).count)) | Err e ↦ Unit {0} ] }
     ensures scratch { elim result [ Ok s ↦ scratch.new ≡ cleared (scratch_cells_for (length digits.now)) scratch.old | Err e ↦ scratch.new ≡ scratch.old ] }
 {
     if digits.len() > MOST_DIGITS {

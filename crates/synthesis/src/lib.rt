@@ -1,4 +1,6 @@
 // Massey's synthesis of a shortest register.
+#![tactic(auto)]
+
 mod analyser;
 mod begin;
 mod call;

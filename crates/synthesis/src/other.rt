@@ -25,7 +25,7 @@ fn join_steps()
 fn joined_tap<F: Field>(field: &F, c: &[u16], b: &[u16], shift: usize, i: usize) -> u16
     requires inside { i < length c.now }
     requires same { length b.now ≡ length c.now }
-    ensures { result ≡ joined_tap_of (means field.now) c.now b.now shift i }
+    ensures { result ≡ joined_tap_of (F.means field.now) c.now b.now shift i }
 {
     tap_cases();
     if i < shift {
@@ -45,7 +45,7 @@ fn join_taps<F: Field>(
     requires inside { taps < length c.now }
     requires same { length b.now ≡ length c.now }
     requires room { taps ≤ length cells.old }
-    ensures { Joined (means field.now) c.now b.now shift cells.old taps cells.new }
+    ensures { Joined (F.means field.now) c.now b.now shift cells.old taps cells.new }
 {
     join_steps();
     for i in 0..taps {
@@ -55,7 +55,7 @@ fn join_taps<F: Field>(
 
 fn join_rows<F: Field>(field: &F, state: &State, cells: &mut [u16])
     requires { state.now.progress.length ≤ length cells.old }
-    ensures { Joined (means field.now) state.now.c state.now.b state.now.progress.shift cells.old state.now.progress.length cells.new }
+    ensures { Joined (F.means field.now) state.now.c state.now.b state.now.progress.shift cells.old state.now.progress.length cells.new }
 {
     let p = &state.progress;
     join_taps(field, &state.c, &state.b, p.shift, p.length, cells)
@@ -64,8 +64,8 @@ fn join_rows<F: Field>(field: &F, state: &State, cells: &mut [u16])
 // The same, as the other register of the steps, which is a rival where twice the length passes the digits.
 pub(crate) fn write_other<F: Field>(field: &F, state: &State, cells: &mut [u16])
     requires { state.now.progress.length ≤ length cells.old }
-    ensures written { Sound (means field.now) state.now → cells.new ≡ overwritten (other_of (means field.now) (steps (means field.now) (kept state.now))) cells.old }
-    ensures rival { state.now.progress.taken < 2 * state.now.progress.length → Sound (means field.now) state.now → Rival (means field.now) (kept state.now) (register_of (steps (means field.now) (kept state.now))) state.now.progress.shift (other_of (means field.now) (steps (means field.now) (kept state.now))) }
+    ensures written { Sound (F.means field.now) state.now → cells.new ≡ overwritten (other_of (F.means field.now) (steps (F.means field.now) (kept state.now))) cells.old }
+    ensures rival { state.now.progress.taken < 2 * state.now.progress.length → Sound (F.means field.now) state.now → Rival (F.means field.now) (kept state.now) (register_of (steps (F.means field.now) (kept state.now))) state.now.progress.shift (other_of (F.means field.now) (steps (F.means field.now) (kept state.now))) }
 {
     join_rows(field, state, cells)
 }

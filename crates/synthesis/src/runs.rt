@@ -19,8 +19,8 @@ fn call_steps(calls: &[Call])
 
 fn make_call<F: Field>(a: &mut Analyser<F>, call: Call, cells: &mut [u16])
     ensures field { a.new.field ≡ a.old.field }
-    ensures kept { kept a.new.state ≡ called (means a.old.field).order (kept a.old.state) call }
-    ensures sound { made a.old.field → Sound (means a.old.field) a.old.state → Sound (means a.old.field) a.new.state }
+    ensures kept { kept a.new.state ≡ called (F.means a.old.field).order (kept a.old.state) call }
+    ensures sound { F.made a.old.field → Sound (F.means a.old.field) a.old.state → Sound (F.means a.old.field) a.new.state }
 {
     match call {
         Call::Feed(s) => {
@@ -44,8 +44,8 @@ fn make_call<F: Field>(a: &mut Analyser<F>, call: Call, cells: &mut [u16])
 // Makes the calls one after another, whatever they answer.
 fn perform<F: Field>(a: &mut Analyser<F>, calls: &[Call], cells: &mut [u16])
     ensures field { a.new.field ≡ a.old.field }
-    ensures kept { kept a.new.state ≡ performed (means a.old.field).order (kept a.old.state) calls.now }
-    ensures sound { made a.old.field → Sound (means a.old.field) a.old.state → Sound (means a.old.field) a.new.state }
+    ensures kept { kept a.new.state ≡ performed (F.means a.old.field).order (kept a.old.state) calls.now }
+    ensures sound { F.made a.old.field → Sound (F.means a.old.field) a.old.state → Sound (F.means a.old.field) a.new.state }
 {
     call_steps(calls);
     for i in 0..calls.len() {
@@ -58,8 +58,8 @@ fn report_cells<F: Field>(
     cells: &mut [u16],
     others: &mut [u16],
 ) -> Result<Report, Refusal>
-    ensures refused { Sound (means a.now.field) a.now.state → refusal_of result ≡ run_refusal (means a.now.field) (kept a.now.state) (length cells.old) (length others.old) }
-    ensures reported { Sound (means a.now.field) a.now.state → ReportedOr (means a.now.field) (kept a.now.state) cells.old cells.new others.old others.new result }
+    ensures refused { Sound (F.means a.now.field) a.now.state → refusal_of result ≡ run_refusal (F.means a.now.field) (kept a.now.state) (length cells.old) (length others.old) }
+    ensures reported { Sound (F.means a.now.field) a.now.state → ReportedOr (F.means a.now.field) (kept a.now.state) cells.old cells.new others.old others.new result }
 {
     // tested first, since a refusal leaves all cells as they were
     if others.len() < a.other_taps() {
@@ -76,8 +76,8 @@ fn report<F: Field>(
     cells: &mut [u16],
     others: &mut [u16],
 ) -> Result<Report, Refusal>
-    ensures refused { Sound (means a.now.field) a.now.state → refusal_of result ≡ run_refusal (means a.now.field) (kept a.now.state) (length cells.old) (length others.old) }
-    ensures found { Sound (means a.now.field) a.now.state → FoundOr (means a.now.field) (kept a.now.state) cells.old cells.new others.old others.new result }
+    ensures refused { Sound (F.means a.now.field) a.now.state → refusal_of result ≡ run_refusal (F.means a.now.field) (kept a.now.state) (length cells.old) (length others.old) }
+    ensures found { Sound (F.means a.now.field) a.now.state → FoundOr (F.means a.now.field) (kept a.now.state) cells.old cells.new others.old others.new result }
 {
     report_cells(a, cells, others)
 }
@@ -89,8 +89,8 @@ pub fn run_calls<F: Field + Drop>(
     cells: &mut [u16],
     others: &mut [u16],
 ) -> Result<Report, Refusal>
-    ensures refused { made field → refusal_of result ≡ run_refusal (means field) (performed (means field).order [] calls.now) (length cells.old) (length others.old) }
-    ensures found { made field → FoundOr (means field) (performed (means field).order [] calls.now) cells.old cells.new others.old others.new result }
+    ensures refused { F.made field → refusal_of result ≡ run_refusal (F.means field) (performed (F.means field).order [] calls.now) (length cells.old) (length others.old) }
+    ensures found { F.made field → FoundOr (F.means field) (performed (F.means field).order [] calls.now) cells.old cells.new others.old others.new result }
 {
     let mut a = Analyser::new(field);
     let mut spare = [0; MOST_DIGITS];

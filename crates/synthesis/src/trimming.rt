@@ -13,7 +13,7 @@ fn cut_cells<F: Field>(field: &F, state: &mut State, t: usize)
     requires { t ≤ state.old.progress.taken }
     ensures digits { state.new.digits ≡ state.old.digits }
     ensures taken { state.new.progress.taken ≡ t }
-    ensures tracks { made field.now → Tracks (means field.now) (take t state.old.digits) state.new.c state.new.b state.new.progress }
+    ensures tracks { F.made field.now → Tracks (F.means field.now) (take t state.old.digits) state.new.c state.new.b state.new.progress }
 {
     let digits = state.digits;
     let mut spare = [0; ROW_CELLS];
@@ -24,7 +24,7 @@ fn cut_cells<F: Field>(field: &F, state: &mut State, t: usize)
 pub(crate) fn cut<F: Field>(field: &F, state: &mut State, t: usize)
     requires { t ≤ state.old.progress.taken }
     ensures kept { kept state.new ≡ take t (kept state.old) }
-    ensures sound { made field.now → Sound (means field.now) state.old → Sound (means field.now) state.new }
+    ensures sound { F.made field.now → Sound (F.means field.now) state.old → Sound (F.means field.now) state.new }
 {
     cut_cells(field, state, t)
 }

@@ -1,4 +1,6 @@
 // The field of 256 digits by tables of the powers of 2 and of their logarithms.
+#![tactic(auto)]
+
 mod arithmetic;
 mod logarithms;
 mod make;

@@ -1,4 +1,6 @@
 // Examples and edges of the calls, over fields of every kind.
+#![tactic(auto)]
+
 #[cfg(test)]
 mod analysers;
 #[cfg(test)]

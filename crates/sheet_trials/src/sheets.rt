@@ -2,7 +2,8 @@
 // A row of a table is a sheet and its answer, with / for each closing byte and, in a sheet, # for what a test puts there.
 use answers::{Line, answer_sheet};
 use std::alloc::Global;
-use std::test::*;
+use std::process::Abort;
+use std::test::Fail;
 
 // What the program writes for a sheet.
 fn answered(heap: Global, sheet: &[u8]) -> Result<String, Fail> {
@@ -29,23 +30,21 @@ fn written(heap: Global, text: &str, part: &str) -> Result<Vec<u8>, Fail> {
     Ok(bytes)
 }
 
-fn holds(rt: &HostRuntime, row: &str, part: &str) -> Result<(), Fail> {
+fn holds(rt: &(impl Abort + AllocGlobal), row: &str, part: &str) -> Result<(), Fail> {
     let Some((sheet, answer)) = row.split_once(" => ") else {
-        return Err(Fail::new("a row with no answer")).note(row);
+        return Err(Fail::new("a row with no answer"));
     };
     let sheet = written(rt.alloc(), sheet, part)?;
     let expected = written(rt.alloc(), answer, "")?;
     let all = answered(rt.alloc(), sheet.as_slice())?;
-    assert!(
+    assert!(rt;
         all.as_str().as_bytes() == expected.as_slice(),
-        "{}; {}",
-        all.as_str(),
-        row
+        "{all} at {row}"
     );
     Ok(())
 }
 
-fn all_hold(rt: &HostRuntime, table: &str, part: &str) -> Result<(), Fail> {
+fn all_hold(rt: &(impl Abort + AllocGlobal), table: &str, part: &str) -> Result<(), Fail> {
     for row in table.split('\n') {
         holds(rt, row, part)?;
     }

@@ -2,7 +2,7 @@
 
     python3 compare/run.py [--share] [PROGRAM]
 
-Without PROGRAM it is built first, by `rt check mark_sheet`. --share takes fewer sheets. Ends by 'N passed, M failed';
+Without PROGRAM it is built first, by `rt run`. --share takes fewer sheets. Ends by 'N passed, M failed';
 what never came up, of all fields with all verdicts, all refusals and all faults, counts as failed.
 """
 
@@ -149,12 +149,13 @@ def sheets(wanted):
 
 def built():
     """The program, proved and built from the files as they stand."""
-    print("compare: rt check mark_sheet, which takes some minutes where nothing is built yet", file=sys.stderr)
-    check = subprocess.run(["rt", "check", "mark_sheet"], cwd=ROOT, stdin=subprocess.DEVNULL, capture_output=True, check=False)
-    if check.returncode != 0:
-        sys.stdout.buffer.write(check.stdout + check.stderr)
+    print("compare: rt run in crates/mark_sheet, which takes some minutes where nothing is built yet", file=sys.stderr)
+    crate = ROOT / "crates" / "mark_sheet"
+    run = subprocess.run(["rt", "run"], cwd=crate, stdin=subprocess.DEVNULL, capture_output=True, check=False)
+    if run.returncode != 0:
+        sys.stdout.buffer.write(run.stdout + run.stderr)
         sys.exit("the program could not be built")
-    return ROOT / "target" / "bin" / "mark_sheet"
+    return crate / "out" / "mark_sheet"
 
 
 def main(arguments):

@@ -5,8 +5,8 @@ pub returns : goal.returns
 returns g c =
     let m = g.F.Field.means c.args.field.now in
     let st = c.args.state.now in
-    let r = c.negated-feedback.result in
+    let r = c.negated_feedback.result in
     record {
-      value = λ x. expected_is m st x r c.negated-feedback.ensures;
-      expected = λ x. expected_holds m st x r c.negated-feedback.ensures;
+      value = λ x. expected_is m st x r c.negated_feedback.ensures;
+      expected = λ x. expected_holds m st x r c.negated_feedback.ensures;
     }

@@ -5,9 +5,9 @@ use Rattle.synthesis.proofs.feeding.push.Goals as goal
 pub returns : goal.returns
 returns g c =
     let st = c.args.state.now in
-    let to = c.push-cell.new.state in
+    let to = c.push_cell.new.state in
     let s = c.args.s in
-    let r = c.push-cell.ensures in
+    let r = c.push_cell.ensures in
     let m = g.F.Field.means c.args.field.now in
     record {
       kept = push_kept st to s r.digits r.taken;

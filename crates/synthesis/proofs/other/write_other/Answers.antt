@@ -8,6 +8,6 @@ returns g c =
     let m = g.F.Field.means c.args.field.now in
     let st = c.args.state.now in
     record {
-      written = λ x. joined_are m st x c.args.cells.now c.join-rows.new.cells (omega (arith, c.requires)) c.join-rows.ensures;
+      written = λ x. joined_are m st x c.args.cells.now c.join_rows.new.cells (omega (arith, c.requires)) c.join_rows.ensures;
       rival = λ h x. sound_rival m st x h;
     }

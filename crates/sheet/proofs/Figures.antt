@@ -1,5 +1,5 @@
 -- Steps of the loop over a word's figures.
-use Rattle.std.proofs.Common.{◌≡◌, ℕ, ◌+◌, ◌-◌, ◌*◌, ◌^◌, ◌<◌, ◌≤◌, true, false, leb, ◌⊎◌, List, [], ◌∷◌, length, get_or, drop, Some, None, Option, sym, ap, ◌∙◌, ⊎_elim, pow-suc, add-one, arith}
+use Rattle.std.proofs.Common.{◌≡◌, ℕ, ◌+◌, ◌-◌, ◌*◌, ◌^◌, ◌<◌, ◌≤◌, true, false, leb, List, [], ◌∷◌, length, get_or, drop, Some, None, Option, sym, ap, ◌∙◌, ⊎_elim, pow-suc, add-one, arith}
 use Rattle.std.proofs.lemmas.List.{at_drop_more, at_drop_all}
 use Rattle.std.proofs.lemmas.Bool.{le-leb, leb-true, eqb-false, ltb-false, ne_eqb, le-ltb, cond-true, cond-false, cases_lt, cases_eq, cases_Bool, and_parts, and_cases, and_from, and_left, and_right, or_parts, or_from}
 use Rattle.sheet.specs.Numeral.{Figures, value_after, Number, is_figure, figures_after, misshapen, at_most, numeral}

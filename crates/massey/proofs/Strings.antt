@@ -60,8 +60,8 @@ module _ (m : Meaning) (laws : FieldLaws m) (w : List ℕ) (dw : Digits m w) whe
   row_generates : (R : ℕ → Fin m.order) → IsRow o st.l R → Vanishes o s st.l st.k R
       → (taps : List ℕ) → length taps ≡ st.l → ((i : ℕ) → i < st.l → at taps i ≡ (R (suc i)).0) → Generates m taps w
   unfolding s elements_of
-  row_generates R r q taps e at-taps =
-      rule_generates m w taps st.l (values (tail R)) e at-taps
+  row_generates R r q taps e at_taps =
+      rule_generates m w taps st.l (values (tail R)) e at_taps
       (λ n from to.
       sym (discrepancy_value m laws.ring s st.l (tail R) n)
       ∙ ap (λ x. x.0) (vanishes_rule F s st.l st.k R r q n from (omega (arith, taken))))
@@ -107,7 +107,7 @@ module _ (m : Meaning) (laws : FieldLaws m) (w : List ℕ) (dw : Digits m w) whe
       let least : 1 ≤ st.j = omega (arith, invariant.j_some) in
       let most : st.j ≤ st.l = omega (arith, taken, invariant.room) in
       let last : st.j - 1 < st.l = omega arith in
-      let tap-j : suc (st.j - 1) ≡ st.j = omega arith in
+      let tap_j : suc (st.j - 1) ≡ st.j = omega arith in
       record {
         digits = λ i l. let e = other_tap i (omega (arith, other_length m (state_values st))) in subst (λ x. x < m.order) (sym e) (other_row_of o st (suc i)).1;
         generates = row_generates (other_row_of o st) (other_row F s st invariant long) (other_vanishes F s st invariant long) (other_of m (state_values st)) (other_length m (state_values st)) other_tap;
@@ -117,7 +117,7 @@ module _ (m : Meaning) (laws : FieldLaws m) (w : List ℕ) (dw : Digits m w) whe
         before = λ i l. other_tap i (omega arith) ∙ ap (λ x. x.0) (other_before F s st invariant (suc i) l) ∙ sym (register_at (state_values st) i (omega arith));
         differs = λ e.
             other_differs F s st invariant
-            (subst (λ n. other_row_of o st n ≡ st.C n) tap-j
+            (subst (λ n. other_row_of o st n ≡ st.C n) tap_j
             (native.Mathlib.Fin.val_path (sym (other_tap (st.j - 1) last) ∙ e ∙ register_at (state_values st) (st.j - 1) last)));
       }
 

@@ -1,5 +1,5 @@
 -- What a sound state shows: its register, and the digit that it expects. Assumes nothing.
-use Rattle.std.proofs.Common.{◌≡◌, ℕ, suc, ◌≤◌, List, ◌++◌, length, take, drop, sym, ap, ◌∙◌, subst, ap₂, arith, length-drop, get_or-drop, get_or-take}
+use Rattle.std.proofs.Common.{◌≡◌, ℕ, suc, ◌≤◌, List, ◌++◌, take, drop, sym, ap, ◌∙◌, subst, ap₂, arith, length-drop, get_or-drop, get_or-take}
 use Rattle.std.proofs.lemmas.List.{length-take-le}
 use Rattle.field.specs.Meaning.{Meaning, Negates}
 use Rattle.field.specs.Operations.{negative}

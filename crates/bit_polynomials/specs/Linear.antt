@@ -1,7 +1,6 @@
 -- The product is linear over the exclusive or in each factor, and what follows. Assumes nothing.
 use Rattle.std.specs.Prelude.{◌≡◌, ℕ, zero, suc, ◌+◌, ◌*◌, ◌/◌, ◌%◌, ◌^◌, ◌<◌}
-use Rattle.std.proofs.Math.Path.{refl, sym, ap, ap₂}
-use Rattle.std.proofs.Common.{◌∙◌, mod-lt, zero-mul, mul-zero, one-mul, arith, lit<}
+use Rattle.std.proofs.Common.{refl, sym, ap, ap₂, ◌∙◌, mod-lt, zero-mul, mul-zero, one-mul, arith, lit<}
 use Rattle.std.proofs.Math.Nat.{zero-div}
 use Rattle.std.specs.Int.Bits.{bit_xor, xor_assoc, xor_self, xor_zero_l, xor_zero_r}
 use Rattle.std.proofs.lemmas.Nat.{xor_comm, xor_shr, xor_mod, xor_block}

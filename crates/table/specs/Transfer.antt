@@ -1,7 +1,6 @@
 -- Two fields with the same sums and products of digits. Assumes nothing.
 use Rattle.std.specs.Prelude.{◌≡◌, ℕ, zero, suc, ◌<◌, Bool, cond, nat_eq, refl}
-use Rattle.std.proofs.Common.{sym, ap₂, ◌∙◌, arith}
-use Rattle.std.proofs.Math.Path.{ap}
+use Rattle.std.proofs.Common.{sym, ap, ap₂, ◌∙◌, arith}
 use Rattle.field.specs.Meaning.{Meaning, digit, add, multiply}
 use Rattle.field.specs.Laws.{FieldLaws}
 use Rattle.field.specs.Operations.{the, inverse}

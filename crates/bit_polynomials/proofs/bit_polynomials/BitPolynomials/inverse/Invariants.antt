@@ -5,4 +5,4 @@ use Rattle.bit_polynomials.proofs.bit_polynomials.BitPolynomials.inverse.Given a
 abbrev pub invariant-loop-i : goal.invariant-loop-i
 invariant-loop-i l =
     (l.square < l.self.order) × (l.r < l.self.order)
-    × (squares l.self.degree l.self.modulus (l.self.degree - l.-i) l.square l.r ≡ squares l.self.degree l.self.modulus (l.self.degree - 1) l.a 1)
+    × (squares l.self.degree l.self.modulus (l.self.degree - l._i) l.square l.r ≡ squares l.self.degree l.self.modulus (l.self.degree - 1) l.a 1)

@@ -1,5 +1,5 @@
 use Rattle.std.proofs.Common.{◌+◌, ◌-◌, ◌/◌, sym, ap, ◌∙◌, arith}
-use lib.Bits.{bit_xor}
+use Rattle.std.specs.Int.Bits.{bit_xor}
 use Rattle.bit_polynomials.specs.Polynomials.{times}
 use Rattle.bit_polynomials.specs.Reduced.{double_is, double_lt}
 use Rattle.bit_polynomials.specs.Powers.{times_turn, times_none, turn_lt}
@@ -12,13 +12,13 @@ loop-i-preserved c =
     let m = f.modulus in
     let x = c.loop-i.x in
     let y = c.loop-i.y in
-    let j = k - (c.loop-i.-i + 1) in
-    let bit = c.with-bit-r.ensures in
+    let j = k - (c.loop-i._i + 1) in
+    let bit = c.with_bit-r.ensures in
     let doubled = double_is k m f.order x c.doubled-x.result f.power c.loop-i.invariant.0 c.doubled-x.ensures.low c.doubled-x.ensures.high in (
       omega (arith, doubled, double_lt k m (omega arith) (omega arith) x (omega arith)),
-      turn_lt k m f.order c.loop-i.r c.with-bit-r.result x y f.power c.loop-i.invariant.1 c.loop-i.invariant.0 bit.one bit.none,
-      ap (λ z. bit_xor c.with-bit-r.result (times k m j z (y / 2))) doubled
-          ∙ times_turn k m (k - c.loop-i.-i) j c.loop-i.r c.with-bit-r.result x y (omega arith) bit.one bit.none
+      turn_lt k m f.order c.loop-i.r c.with_bit-r.result x y f.power c.loop-i.invariant.1 c.loop-i.invariant.0 bit.one bit.none,
+      ap (λ z. bit_xor c.with_bit-r.result (times k m j z (y / 2))) doubled
+          ∙ times_turn k m (k - c.loop-i._i) j c.loop-i.r c.with_bit-r.result x y (omega arith) bit.one bit.none
           ∙ c.loop-i.invariant.2,
     )
 
@@ -26,6 +26,6 @@ pub returns : goal.returns
 returns c =
     let f = c.args.self.now in
     record {
-      is = sym (times_none f.degree f.modulus (f.degree - c.loop-i.-i) c.loop-i.r c.loop-i.x c.loop-i.y (omega arith)) ∙ c.loop-i.invariant.2;
+      is = sym (times_none f.degree f.modulus (f.degree - c.loop-i._i) c.loop-i.r c.loop-i.x c.loop-i.y (omega arith)) ∙ c.loop-i.invariant.2;
       within = c.loop-i.invariant.1;
     }

@@ -1,5 +1,5 @@
 use Rattle.std.proofs.Common.{sym, ap, ◌∙◌}
-use lib.Bits.{bit_xor, xor_self}
+use Rattle.std.specs.Int.Bits.{bit_xor, xor_self}
 use Rattle.table.proofs.arithmetic.TableField.negate.Goals as goal
 
 pub returns : goal.returns

@@ -65,7 +65,7 @@ impl fmt::Display for Line {
 
 // Writes a line for each task, the first of them task 1.
 fn write_tasks<W: fmt::Write>(answers: &[Answer], f: &mut fmt::Formatter<W>) -> fmt::Result
-    ensures { DisplaysOnOk write_str_gives f.old result (Some (tasks_text 1 answers.now)) f.new }
+    ensures { DisplaysOnOk W.write_str_gives f.old result (Some (tasks_text 1 answers.now)) f.new }
 {
     for (i, answer) in answers.iter().enumerate() {
         let line = Line::Task {

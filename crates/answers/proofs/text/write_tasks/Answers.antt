@@ -12,7 +12,7 @@ pub loop-i-preserved : goal.loop-i-preserved
 loop-i-preserved g c = λ p.
     let sofar = c.loop-i.invariant p in
     has_written_of_eq _ _ _ _ _ (sym (tasks_more c.loop-i.i c.args.answers.now _ c.loop-i-test.true))
-    (has_written_append _ _ _ _ _ _ sofar (c.in-ok-writeln.ensures.shows sofar.plain refl))
+    (has_written_append _ _ _ _ _ _ sofar (c.in_ok-writeln.ensures.writes sofar.plain refl))
 
 pub returns : goal.returns
 returns g c = λ p q. has_written_of_eq _ _ _ _ _ (ap (tasks_text 1) (take_all c.loop-i.i c.args.answers.now c.loop-i-test.false)) (c.loop-i.invariant p)

@@ -1,17 +1,18 @@
--- The reading agrees with the form and with what is wrong. Assumes nothing.
+-- The reading agrees with what is wrong. Assumes nothing.
 use Rattle.std.proofs.Common.{ℕ, List, sym, ap, ◌∙◌, subst}
-use Rattle.faults.proofs.Complete.{complete, first}
-use Rattle.faults.proofs.Outcomes.{no_err, same_ok, same_err}
+use Rattle.faults.proofs.Complete.{first}
+use Rattle.faults.proofs.Outcomes.{same_err}
 use Rattle.faults.proofs.Sound.{Told, told}
 use Rattle.faults.specs.Exact.{FaultsExactly}
+use Rattle.sheet.proofs.Agrees.{reads_exactly}
+use Rattle.sheet.proofs.Complete.{complete}
+use Rattle.sheet.proofs.Inverts.{no_err}
 use Rattle.sheet.specs.Form.{Entry}
 use Rattle.sheet.specs.Lines.{Stopped}
 
-pub reads_exactly : (bytes : List ℕ) → FaultsExactly bytes
-reads_exactly bytes = record {
-  sound = λ ts p. subst (Told bytes) p (told bytes);
-  complete = complete bytes;
-  only = λ ts us h k. same_ok {E = Stopped} ts us (sym (complete bytes ts h) ∙ complete bytes us k);
+pub faults_exactly : (bytes : List ℕ) → FaultsExactly bytes
+faults_exactly bytes = record {
+  only = (reads_exactly bytes).only;
   faulty = λ ts e p. subst (Told bytes) p (told bytes);
   first = first bytes;
   one_fault = λ ts us d e h k. ap (λ (s : Stopped). s.fault) (same_err {X = List Entry} (record { tasks = ts; fault = d }) (record { tasks = us; fault = e }) (sym (first bytes ts d h) ∙ first bytes us e k));

@@ -1,11 +1,11 @@
 -- How many lines a text closes, and what stands where in a line.
-use Rattle.faults.specs.Parts.{AllLack, lacks}
 use Rattle.std.proofs.Common.{◌≡◌, ℕ, ◌+◌, true, eqb, List, [], ◌∷◌, ◌++◌, length, sym, refl, ap, ◌∙◌, subst, append_assoc, append-nil, arith, length-append}
 use Rattle.std.proofs.lemmas.Bool.{cond-true, cond-false, cond_both, eqb-false}
-use Rattle.faults.proofs.Joins.{lacks_head, lacks_more, lacks_append}
-use Rattle.sheet.proofs.Known.{keyword_is}
 use Rattle.faults.specs.Begins.{closed, place_behind}
 use Rattle.faults.specs.Faulty.{no_name, unknown_name, second_name, at_word, too_few, Breaks}
+use Rattle.faults.specs.Parts.{AllLack, lacks}
+use Rattle.sheet.proofs.Joins.{lacks_head, lacks_more, lacks_append}
+use Rattle.sheet.proofs.Known.{keyword_is}
 use Rattle.sheet.specs.Form.{behind}
 use Rattle.sheet.specs.Names.{keyword, field_name_of}
 use Rattle.sheet.specs.Reading.{spot}

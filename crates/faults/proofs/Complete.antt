@@ -1,19 +1,20 @@
--- A sheet is read, and what is wrong is found.
-use Rattle.faults.specs.Parts.{bad_word, lacks}
-use Rattle.std.proofs.Common.{◌≡◌, ℕ, ◌+◌, true, false, ltb, List, [], ◌∷◌, ◌++◌, length, Ok, Result, sym, refl, ap, ◌∙◌, subst, append-nil, arith}
+-- What is wrong is found.
+use Rattle.std.proofs.Common.{◌≡◌, ℕ, ◌+◌, true, false, ltb, List, [], ◌∷◌, ◌++◌, length, Ok, Result, sym, refl, ap, ◌∙◌, subst, arith}
 use Rattle.std.proofs.lemmas.Bool.{cond-true, cond-false, lt-ltb, both_ways}
 use Rattle.faults.proofs.Beginnings.{closed_line, length_line, place_said}
-use Rattle.faults.proofs.Ends.{goes_on}
-use Rattle.faults.proofs.Inverts.{numbers_stop, name_stop, places_complete, places_stop, open_stop}
-use Rattle.faults.proofs.Joins.{lacks_append, lacks_behind, numbers_lack, split_cut, split_whole, split_behind}
+use Rattle.faults.proofs.Ends.{more_left}
+use Rattle.faults.proofs.Inverts.{numbers_stop, name_stop, places_stop, open_stop}
 use Rattle.faults.proofs.Outcomes.{stop_at}
-use Rattle.faults.proofs.Reaches.{line_forward, reached_reads}
-use Rattle.faults.proofs.Steps.{lines_step, not_last}
-use Rattle.sheet.specs.Lines.{Due, start, digits_of, claim_of}
+use Rattle.faults.proofs.Reaches.{reached_reads}
 use Rattle.faults.specs.Begins.{closed, place_behind, may_come, Reached, NextLine}
 use Rattle.faults.specs.Faulty.{Faulty, too_long, unclosed, unknown_word, out_of_order, in_line, behind_tail, Breaks}
-use Rattle.sheet.specs.Form.{Entry, places, behind, HasForm}
-use Rattle.sheet.specs.Lines.{Outcome, stopped, or_stop, as_sheet, turn, ended, lines_after, reading}
+use Rattle.faults.specs.Parts.{bad_word, lacks}
+use Rattle.sheet.proofs.Complete.{line_forward}
+use Rattle.sheet.proofs.Cuts.{lines_step, not_last}
+use Rattle.sheet.proofs.Inverts.{places_complete}
+use Rattle.sheet.proofs.Joins.{lacks_append, lacks_behind, split_cut, split_whole, split_behind}
+use Rattle.sheet.specs.Form.{Entry, places, behind}
+use Rattle.sheet.specs.Lines.{Due, start, digits_of, claim_of, Outcome, stopped, or_stop, as_sheet, turn, ended, lines_after, reading}
 use Rattle.sheet.specs.Names.{keyword}
 use Rattle.sheet.specs.Reading.{spot, numbers_after, field_after, opened}
 use Rattle.sheet.specs.Split.{split}
@@ -22,27 +23,6 @@ use Rattle.sheet.specs.declared.fault.SheetFault.TheVariants.{Order}
 use Rattle.sheet.specs.declared.names.Keyword.{Keyword}
 use Rattle.sheet.specs.declared.names.Keyword.TheVariants.{Field, Digits, Claim, Tail}
 
--- A sheet.
-pub complete : (bytes : List ℕ) (ts : List Entry) → HasForm bytes ts → reading bytes ≡ Ok ts
-complete bytes ts h =
-    let line = h.tail_line in
-    let reached : Reached bytes ts start h.tasks (h.tail ++ 10 ∷ []) = record {
-      short = h.short;
-      whole = h.whole;
-      tasks = h.tasks;
-      begun = [];
-      before_is = sym (append-nil h.tasks);
-      body = h.body;
-      lines = refl;
-      room = h.few;
-    } in
-    let l = closed h.tasks + 1 in
-    let b = length h.tasks in
-    reached_reads bytes ts start h.tasks (h.tail ++ 10 ∷ []) reached
-    ∙ line_forward l b Tail line.words h.tail [] ts start line.text (numbers_lack 32 line.words (places ts) (omega arith) line.numbers) (numbers_lack 10 line.words (places ts) (omega arith) line.numbers)
-    ∙ ap (λ r. or_stop ts r (λ _. Ok ts)) (places_complete l (b + length (keyword Tail)) (places ts) line.words line.numbers)
-
--- What is wrong.
 module _ (sheet : List ℕ) (ts : List Entry) (due : Due) (before : List ℕ) where
   no_line_left : (rest : List ℕ) → Reached sheet ts due before rest → lacks 10 rest ≡ true → reading sheet ≡ stopped ts (Order (place_behind before))
   no_line_left rest r lack =
@@ -119,6 +99,6 @@ first sheet ts e (behind_tail before ws more h all some is) =
     let place : spot (closed before + 1 + 1) (length before + length s + 1) ≡ place_behind (before ++ (s ++ 10 ∷ [])) = ap (λ n. spot (n + 1) (length before + length s + 1)) (sym (closed_line before s free)) ∙ ap (spot (closed (before ++ (s ++ 10 ∷ [])) + 1)) (sym (length_line before s)) in
     turned sheet ts start before Tail ws more h _
     (λ go. ap (λ r. or_stop ts r (λ _. or_stop ts (ended (closed before + 1 + 1) (length before + length s + 1) (split 10 more)) (λ _. Ok ts))) (places_complete _ _ (places ts) ws all)
-    ∙ stop_at ts _ _ _ (goes_on _ _ more some))
+    ∙ stop_at ts _ _ _ (more_left _ _ more some))
     ∙ ap (λ a. stopped ts (Order a)) place
     ∙ ap (stopped ts) (sym is)

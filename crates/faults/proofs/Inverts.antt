@@ -1,26 +1,27 @@
 -- What the reading of a line's words tells, and the other way round.
-use Rattle.faults.specs.Parts.{bad_word}
 use Rattle.std.proofs.Common.{◌≡◌, ℕ, ◌+◌, cond, eqb, List, [], ◌∷◌, ◌++◌, length, Some, None, Ok, Err, Option, Result, sym, refl, ap, ◌∙◌, subst, append_assoc, append-nil, arith, length-append}
-use Rattle.std.specs.Option.{ok_or}
-use Rattle.std.proofs.lemmas.List.{nil_from_length}
 use Rattle.std.proofs.lemmas.Bool.{eq-eqb, ne_eqb, eqb-true, eqb-false, cond-true, cond-false, cond_both}
-use Rattle.sheet.proofs.Figures.{numeral_sound, numeral_complete}
-use Rattle.sheet.proofs.Known.{none_some, number_kind, keyword_sound, field_sound, keyword_is, name_is}
+use Rattle.std.proofs.lemmas.List.{nil_from_length}
+use Rattle.std.specs.Option.{ok_or}
 use Rattle.faults.proofs.Outcomes.{line_by, then_by, line_stop, then_stop}
 use Rattle.faults.specs.Faulty.{NoNumber, empty_word, not_number, NoPlace, no_number_at, false_place, BadName, no_name, unknown_name, second_name, BadNumber, BadPlace, at_word, too_few}
+use Rattle.faults.specs.Parts.{bad_word}
+use Rattle.sheet.proofs.Figures.{numeral_sound, numeral_complete}
+use Rattle.sheet.proofs.Inverts.{due_complete, place_complete}
+use Rattle.sheet.proofs.Known.{none_some, number_kind, keyword_sound, field_sound, keyword_is, name_is}
 use Rattle.sheet.specs.Form.{behind, AreNumbers}
-use Rattle.sheet.specs.Words.{kind_of, as_keyword, as_name, as_number}
 use Rattle.sheet.specs.Lines.{as_sheet, place_due_of, places_after}
 use Rattle.sheet.specs.Names.{keyword, field_name_of}
 use Rattle.sheet.specs.Numeral.{Number}
-use Rattle.sheet.specs.Reading.{spot, and_then, number_in, as_line, number_due_of, numbers_after, no_more, field_after, Opened, opened}
+use Rattle.sheet.specs.Reading.{spot, and_then, number_of, as_line, number_due_of, numbers_after, no_more, field_after, Opened, opened}
+use Rattle.sheet.specs.Words.{kind_of, as_keyword, as_name, as_number}
 use Rattle.sheet.specs.declared.fault.At.{At}
 use Rattle.sheet.specs.declared.fault.LineFault.{LineFault}
 use Rattle.sheet.specs.declared.fault.LineFault.TheVariants.{BadWord}
 use Rattle.sheet.specs.declared.fault.SheetFault.{SheetFault}
 use Rattle.sheet.specs.declared.fault.SheetFault.TheVariants.{Place}
-use Rattle.sheet.specs.declared.names.Keyword.{Keyword}
 use Rattle.sheet.specs.declared.names.FieldName.{FieldName}
+use Rattle.sheet.specs.declared.names.Keyword.{Keyword}
 
 -- one byte more on a line
 moved : (line byte : ℕ) (v said : List ℕ) → spot line (byte + 1 + length v + length said) ≡ spot line (byte + length (32 ∷ (v ++ said)))
@@ -40,27 +41,21 @@ kind_told a w (Some n) some p = numeral_sound w n (sym (number_kind w) ∙ p)
 
 due_told : (a : At) (w : List ℕ) → DueTold a w (as_sheet (number_due_of a w))
 due_told a w =
-    cond_both (eqb (length w) 0) (Err (BadWord a)) (as_line (number_in (kind_of w) a)) (λ r. DueTold a w (as_sheet r))
+    cond_both (eqb (length w) 0) (Err (BadWord a)) (as_line (number_of a w)) (λ r. DueTold a w (as_sheet r))
     (λ t. empty_word (nil_from_length w (eqb-true _ _ t)) refl)
     (λ f. kind_told a w (as_number (kind_of w)) (λ e. eqb-false _ _ f (ap length e)) refl)
 
 due_is : (a : At) (w : List ℕ) (r : Result ℕ LineFault) → number_due_of a w ≡ r → DueTold a w (as_sheet r)
 due_is a w r p = subst (λ r. DueTold a w (as_sheet r)) p (due_told a w)
 
-due_complete : (a : At) (w : List ℕ) (n : ℕ) → Number w n → number_due_of a w ≡ Ok n
-due_complete a w n h =
-    let some = h.some in
-    cond-false (eqb (length w) 0) (Err (BadWord a)) (as_line (number_in (kind_of w) a)) (ne_eqb (length w) 0 (λ e. omega arith))
-    ∙ ap (λ o. as_line (ok_or o (record { at = a }))) (number_kind w ∙ numeral_complete w n h)
-
 no_kind : (w : List ℕ) (o : Option ℕ) → ((n : ℕ) → Number w n → ⊥) → as_number (kind_of w) ≡ o → o ≡ None
 no_kind w None never p = refl
 no_kind w (Some n) never p = absurd (never n (numeral_sound w n (sym (number_kind w) ∙ p)))
 
 due_stops : (a : At) (w : List ℕ) (e : SheetFault) → NoNumber w a e → as_sheet (number_due_of a w) ≡ Err e
-due_stops a w e (empty_word none is) = ap as_sheet (cond-true (eqb (length w) 0) (Err (BadWord a)) (as_line (number_in (kind_of w) a)) (eq-eqb (length w) 0 (ap length none))) ∙ ap Err (sym is)
+due_stops a w e (empty_word none is) = ap as_sheet (cond-true (eqb (length w) 0) (Err (BadWord a)) (as_line (number_of a w)) (eq-eqb (length w) 0 (ap length none))) ∙ ap Err (sym is)
 due_stops a w e (not_number some never is) =
-    ap as_sheet (cond-false (eqb (length w) 0) (Err (BadWord a)) (as_line (number_in (kind_of w) a)) (ne_eqb (length w) 0 (λ z. some (nil_from_length w z))))
+    ap as_sheet (cond-false (eqb (length w) 0) (Err (BadWord a)) (as_line (number_of a w)) (ne_eqb (length w) 0 (λ z. some (nil_from_length w z))))
     ∙ ap (λ o. as_sheet (as_line (ok_or o (record { at = a })))) (no_kind w (as_number (kind_of w)) never refl)
     ∙ ap Err (sym is)
 
@@ -91,15 +86,6 @@ numbers_told line byte acc (w ∷ ws) =
     line_by (NumbersTold line byte acc (w ∷ ws)) (number_due_of (spot line (byte + 1)) w) (λ n. numbers_after line (byte + 1 + length w) (acc ++ n ∷ []) ws)
     (λ n p. number_before line byte w n ws acc _ (due_is _ w (Ok n) p) (numbers_told line (byte + 1 + length w) (acc ++ n ∷ []) ws))
     (λ e p. (32 ∷ [], record { good = []; ns = []; w = w; more = ws; words = refl; numbers = tt; said_is = refl; broken = due_is (spot line (byte + 1)) w (Err e) p }))
-
-pub numbers_complete : (line byte : ℕ) (acc : List ℕ) (ws : List (List ℕ)) (ns : List ℕ) → AreNumbers ws ns → numbers_after line byte acc ws ≡ Ok (acc ++ ns)
-numbers_complete line byte acc [] [] h = ap Ok (sym (append-nil acc))
-numbers_complete line byte acc [] (n ∷ ns) h = absurd h
-numbers_complete line byte acc (w ∷ ws) [] h = absurd h
-numbers_complete line byte acc (w ∷ ws) (n ∷ ns) h =
-    ap (λ r. and_then r (λ n. numbers_after line (byte + 1 + length w) (acc ++ n ∷ []) ws)) (due_complete (spot line (byte + 1)) w n h.0)
-    ∙ numbers_complete line (byte + 1 + length w) (acc ++ n ∷ []) ws ns h.1
-    ∙ ap Ok (append_assoc acc (n ∷ []) ns)
 
 numbers_stop_at : (line byte : ℕ) (acc : List ℕ) (good : List (List ℕ)) (ns w : List ℕ) (more : List (List ℕ)) (e : SheetFault) → AreNumbers good ns → NoNumber w (spot line (byte + length (behind 32 good ++ 32 ∷ []))) e → as_sheet (numbers_after line byte acc (good ++ w ∷ more)) ≡ Err e
 numbers_stop_at line byte acc [] ns w more e h b = line_stop (number_due_of (spot line (byte + 1)) w) (λ n. numbers_after line (byte + 1 + length w) (acc ++ n ∷ []) more) e (due_stops (spot line (byte + 1)) w e b)
@@ -133,9 +119,6 @@ name_kind line byte w ws (Some f) p = name_only line byte f w ws (field_sound w 
 pub name_told : (line byte : ℕ) (ws : List (List ℕ)) → NameTold line byte ws (as_sheet (field_after line byte ws))
 name_told line byte [] = ([], no_name refl refl (ap (λ n. bad_word (spot line n)) (omega arith)))
 name_told line byte (w ∷ ws) = name_kind line byte w ws (as_name (kind_of w)) refl
-
-pub name_complete : (line byte : ℕ) (f : FieldName) → field_after line byte (field_name_of f ∷ []) ≡ Ok f
-name_complete line byte f = ap (λ o. and_then (ok_or o (BadWord (spot line (byte + 1)))) (no_more line (byte + 1 + length (field_name_of f)) [])) (name_is f).2
 
 unnamed : (w : List ℕ) (o : Option FieldName) → ((f : FieldName) → w ≡ field_name_of f → ⊥) → as_name (kind_of w) ≡ o → o ≡ None
 unnamed w None never p = refl
@@ -215,19 +198,6 @@ places_told line byte (p ∷ ps) (w ∷ ws) =
     (λ u is. place_before line byte p w ps ws (places_after line (byte + 1 + length w) ps ws) (subst (PlaceTold a w p ps) is (place_told a w p ps)) (places_told line (byte + 1 + length w) ps ws))
     (λ e is. here_false line byte (p ∷ ps) w ws e (subst (PlaceTold a w p ps) is (place_told a w p ps)))
 
-place_complete : (a : At) (w : List ℕ) (p : ℕ) → Number w p → place_due_of a w p ≡ Ok tt
-place_complete a w p h =
-    ap (λ r. and_then (as_sheet r) (λ n. cond (eqb n p) (Ok tt) (Err (Place a)))) (due_complete a w p h)
-    ∙ cond-true (eqb p p) _ _ (eq-eqb p p refl)
-
-pub places_complete : (line byte : ℕ) (ps : List ℕ) (ws : List (List ℕ)) → AreNumbers ws ps → places_after line byte ps ws ≡ Ok tt
-places_complete line byte [] [] h = refl
-places_complete line byte [] (w ∷ ws) h = absurd h
-places_complete line byte (p ∷ ps) [] h = absurd h
-places_complete line byte (p ∷ ps) (w ∷ ws) h =
-    ap (λ r. and_then r (λ _. places_after line (byte + 1 + length w) ps ws)) (place_complete (spot line (byte + 1)) w p h.0)
-    ∙ places_complete line (byte + 1 + length w) ps ws h.1
-
 place_stop : (line byte : ℕ) (ps w : List ℕ) (more : List (List ℕ)) (e : SheetFault) → NoPlace w ps (spot line (byte + 1)) e → places_after line byte ps (w ∷ more) ≡ Err e
 place_stop line byte [] w more e (no_number_at b) = then_stop _ (λ n. Err (Place (spot line (byte + 1)))) e (due_stops (spot line (byte + 1)) w e b)
 place_stop line byte [] w more e (false_place n h differs is) = ap (λ r. and_then (as_sheet r) (λ n. Err (Place (spot line (byte + 1))))) (due_complete (spot line (byte + 1)) w n h) ∙ ap Err (sym is)
@@ -280,9 +250,6 @@ open_kind line byte w ws (Some k) p = let is = keyword_sound w k p in (k, is, ap
 
 pub open_told : (line byte : ℕ) (w : List ℕ) (ws : List (List ℕ)) → OpenTold line byte w ws (as_sheet (opened line byte (w ∷ ws)))
 open_told line byte w ws = open_kind line byte w ws (as_keyword (kind_of w)) refl
-
-pub open_complete : (line byte : ℕ) (k : Keyword) (ws : List (List ℕ)) → opened line byte (keyword k ∷ ws) ≡ Ok (record { keyword = k; stop = byte + length (keyword k); words = ws })
-open_complete line byte k ws = ap (λ o. and_then (ok_or o (BadWord (spot line byte))) (λ k2. Ok (record { keyword = k2; stop = byte + length (keyword k); words = ws }))) (keyword_is k).2
 
 no_keyword : (w : List ℕ) (o : Option Keyword) → ((k : Keyword) → w ≡ keyword k → ⊥) → as_keyword (kind_of w) ≡ o → o ≡ None
 no_keyword w None never p = refl

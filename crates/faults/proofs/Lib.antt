@@ -3,9 +3,6 @@ pub mod Beginnings
 pub mod Complete
 pub mod Ends
 pub mod Inverts
-pub mod Joins
 pub mod Outcomes
 pub mod Reaches
 pub mod Sound
-pub mod Splits
-pub mod Steps

@@ -1,17 +1,12 @@
 -- Results, case by case.
-use Rattle.std.proofs.Common.{◌≡◌, ℕ, List, Ok, Err, Result, sym, refl, ap, arith}
+use Rattle.std.proofs.Common.{◌≡◌, List, Ok, Err, Result, sym, refl, ap}
+use Rattle.sheet.proofs.Inverts.{no_err}
 use Rattle.sheet.specs.Form.{Entry}
 use Rattle.sheet.specs.Lines.{Outcome, stopped, or_stop, as_sheet}
 use Rattle.sheet.specs.Reading.{and_then}
 use Rattle.sheet.specs.declared.fault.LineFault.{LineFault}
 use Rattle.sheet.specs.declared.fault.SheetFault.{SheetFault}
 use Rattle.sheet.specs.declared.fault.SheetFault.TheVariants.{Line}
-
-pub no_err : {X E : Type 0} (e : E) (x : X) → Err e ≡ Ok x → ⊥
-no_err e x p = let z : ◌≡◌ {A = ℕ} 0 1 = cc in omega arith
-
-pub same_ok : {X E : Type 0} (x y : X) → ◌≡◌ {A = Result X E} (Ok x) (Ok y) → x ≡ y
-same_ok x y p = cc
 
 pub same_err : {X E : Type 0} (d e : E) → ◌≡◌ {A = Result X E} (Err d) (Err e) → d ≡ e
 same_err d e p = cc

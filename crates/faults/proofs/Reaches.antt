@@ -1,34 +1,23 @@
 -- What is in order is read.
-use Rattle.faults.specs.Parts.{AllLack, naming_line, lacks}
 use Rattle.std.proofs.Common.{◌≡◌, ℕ, ◌+◌, ◌<◌, ◌≤◌, true, ltb, List, [], ◌∷◌, ◌++◌, length, Result, sym, refl, ap, ◌∙◌, subst, append_assoc, append-nil, arith, length-append}
 use Rattle.std.proofs.lemmas.Bool.{cond-true, cond-false, lt-ltb, le-ltb}
 use Rattle.faults.proofs.Beginnings.{closed_append, closed_line}
-use Rattle.faults.proofs.Inverts.{numbers_complete, name_complete, open_complete}
-use Rattle.faults.proofs.Joins.{lacks_append, lacks_behind, numbers_lack, split_cut, split_behind}
-use Rattle.sheet.proofs.Known.{keyword_is, name_is}
-use Rattle.faults.proofs.Steps.{lines_step, not_last}
-use Rattle.sheet.specs.Lines.{Due, start, digits_of, claim_of}
 use Rattle.faults.specs.Begins.{closed, Begun, Room, Reached}
+use Rattle.faults.specs.Parts.{AllLack, naming_line, lacks}
+use Rattle.sheet.proofs.Complete.{line_forward}
+use Rattle.sheet.proofs.Inverts.{numbers_complete, field_line_complete}
+use Rattle.sheet.proofs.Joins.{lacks_append, lacks_behind, numbers_lack}
+use Rattle.sheet.proofs.Known.{keyword_is, name_is}
 use Rattle.sheet.specs.Form.{Entry, behind, NumberLine, Naming, plain, named, TaskText, Tasks}
-use Rattle.sheet.specs.Lines.{entry, Outcome, stopped, or_stop, as_sheet, turn, ended, lines_after, reading}
+use Rattle.sheet.specs.Lines.{Due, start, digits_of, claim_of, entry, Outcome, stopped, or_stop, as_sheet, turn, ended, lines_after, reading}
 use Rattle.sheet.specs.Names.{keyword, field_name_of, the_default_field}
-use Rattle.sheet.specs.Reading.{spot, Opened, opened}
+use Rattle.sheet.specs.Reading.{spot}
 use Rattle.sheet.specs.Split.{split}
 use Rattle.sheet.specs.declared.fault.SheetFault.{SheetFault}
 use Rattle.sheet.specs.declared.fault.SheetFault.TheVariants.{Order}
+use Rattle.sheet.specs.declared.names.FieldName.{FieldName}
 use Rattle.sheet.specs.declared.names.Keyword.{Keyword}
 use Rattle.sheet.specs.declared.names.Keyword.TheVariants.{Field, Digits, Claim}
-use Rattle.sheet.specs.declared.names.FieldName.{FieldName}
-
--- one line, whatever it leads to
-pub line_forward : (l b : ℕ) (k : Keyword) (ws : List (List ℕ)) (s more : List ℕ) (ts : List Entry) (due : Due) → s ≡ keyword k ++ behind 32 ws → AllLack 32 ws → AllLack 10 ws → lines_after l b (split 10 (s ++ 10 ∷ more)) ts due ≡ turn l b ts due (lines_after (l + 1) (b + length s + 1) (split 10 more)) (ended (l + 1) (b + length s + 1) (split 10 more)) k (b + length (keyword k)) ws
-line_forward l b k ws s more ts due e no32 no10 =
-    let after_open : Opened → Outcome = λ o. turn l b ts due (lines_after (l + 1) (b + length s + 1) (split 10 more)) (ended (l + 1) (b + length s + 1) (split 10 more)) o.keyword o.stop o.words in
-    let free : lacks 10 s ≡ true = ap (lacks 10) e ∙ lacks_append 10 (keyword k) (behind 32 ws) (keyword_is k).1 (lacks_behind 10 32 ws (λ e. omega arith) no10) in
-    let words : split 32 s ≡ keyword k ∷ ws = ap (split 32) e ∙ split_behind 32 (keyword k) ws (keyword_is k).0 no32 in
-    ap (λ ps. lines_after l b ps ts due) (split_cut 10 s more free)
-    ∙ lines_step l b s (split 10 more) ts due
-    ∙ ap (λ r. or_stop ts r after_open) (not_last l b s 10 more ∙ ap (λ ps. as_sheet (opened l b ps)) words ∙ ap as_sheet (open_complete l b k ws))
 
 -- from the byte b on the text is read, and leads from one state to another
 abbrev Reads : ℕ → List ℕ → List Entry → Due → List Entry → Due → Type 0
@@ -66,7 +55,7 @@ reads_field : (b : ℕ) (f : FieldName) (ts : List Entry) → length ts < 32 →
 reads_field b f ts few =
     reads_line b Field (field_name_of f ∷ []) (naming_line f) ts ts start (digits_of b f) refl ((name_is f).0, tt) ((name_is f).1, tt)
     (λ l go end. cond-true (ltb (length ts) 32) _ (stopped ts (Order (spot l b))) (lt-ltb _ _ few)
-    ∙ ap (λ r. or_stop ts (as_sheet r) (λ f. go ts (digits_of b f))) (name_complete l (b + length (keyword Field)) f))
+    ∙ ap (λ r. or_stop ts (as_sheet r) (λ f. go ts (digits_of b f))) (field_line_complete l (b + length (keyword Field)) f))
 
 reads_digits : (b b0 : ℕ) (f : FieldName) (s ds : List ℕ) (ts : List Entry) → NumberLine Digits s ds → Reads b (s ++ 10 ∷ []) ts (digits_of b0 f) ts (claim_of b0 f ds)
 reads_digits b b0 f s ds ts h =
@@ -103,7 +92,7 @@ reads_task b t own ts few place h =
     (reads_named b t.field h.naming h.digits t.digits ts few h.field_line h.digits_line)
     (reads_claim _ b t.field t.digits h.claim t.claim ts h.claim_line)))
 
-reads_tasks : (b : ℕ) (new : List Entry) (text : List ℕ) (ts : List Entry) → length (ts ++ new) ≤ 32 → Tasks b new text → Reads b text ts start (ts ++ new) start
+reads_tasks : (b : ℕ) (new : List Entry) (text : List ℕ) (ts : List Entry) → length (ts ++ new) ≤ 32 → Tasks b new text [] → Reads b text ts start (ts ++ new) start
 reads_tasks b [] text ts few h = subst (λ us. Reads b text ts start us start) (sym (append-nil ts)) (reads_none b text ts start h)
 reads_tasks b (t ∷ new) text ts few (own, more, whole, place, task, rest) =
     let room : length ts < 32 = omega (arith, simp length-append at few) in

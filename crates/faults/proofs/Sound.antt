@@ -1,35 +1,34 @@
--- What is read is a sheet, and where the reading stops, that is what is wrong.
-use Rattle.faults.specs.Parts.{AllLack, lacks}
+-- Where the reading stops, that is what is wrong.
 use Rattle.std.proofs.Common.{◌≡◌, ℕ, ◌+◌, ◌<◌, true, false, ltb, List, [], ◌∷◌, ◌++◌, length, Ok, Err, Result, sym, refl, ap, ◌∙◌, subst, append_assoc, append-nil, arith, length-append}
 use Rattle.std.proofs.lemmas.Bool.{cond_both, ltb-true, ltb-false}
 use Rattle.faults.proofs.Beginnings.{closed_line, length_line, place_said, split_lack, split_lack_too}
 use Rattle.faults.proofs.Ends.{EndTold, ended_told}
 use Rattle.faults.proofs.Inverts.{NumbersTold, numbers_told, NameTold, name_told, PlacesTold, places_told, OpenTold, open_told}
-use Rattle.faults.proofs.Joins.{rejoin, rejoin_split, lacks_behind}
 use Rattle.faults.proofs.Outcomes.{stop_by}
-use Rattle.faults.proofs.Splits.{split_parts}
-use Rattle.sheet.specs.Lines.{Due, start, digits_of, claim_of}
 use Rattle.faults.specs.Begins.{closed, place_behind, Opening, Begun, Room, may_come, Reached, NextLine}
 use Rattle.faults.specs.Faulty.{BadNumber, Breaks, Faulty, too_long, unclosed, unknown_word, out_of_order, in_line, behind_tail}
-use Rattle.sheet.specs.Form.{Entry, places, behind, AreNumbers, NumberLine, plain, named, TaskText, Tasks, HasForm}
-use Rattle.sheet.specs.Lines.{entry, Outcome, stopped, or_stop, as_sheet, turn, places_after, ended, lines_after, read_from, reading}
+use Rattle.faults.specs.Parts.{AllLack, lacks}
+use Rattle.sheet.proofs.Joins.{rejoin, rejoin_split, lacks_behind}
+use Rattle.sheet.proofs.Splits.{split_some}
+use Rattle.sheet.specs.Form.{Entry, places, behind, AreNumbers, NumberLine, plain, named, TaskText, Tasks}
+use Rattle.sheet.specs.Lines.{Due, start, digits_of, claim_of, entry, Outcome, stopped, or_stop, as_sheet, turn, places_after, ended, lines_after, read_from, reading}
 use Rattle.sheet.specs.Names.{keyword, the_default_field}
 use Rattle.sheet.specs.Reading.{spot, numbers_after, field_after, Opened, opened}
 use Rattle.sheet.specs.Split.{split}
 use Rattle.sheet.specs.declared.fault.At.{At}
 use Rattle.sheet.specs.declared.fault.SheetFault.{SheetFault}
 use Rattle.sheet.specs.declared.fault.SheetFault.TheVariants.{Order}
+use Rattle.sheet.specs.declared.names.FieldName.{FieldName}
 use Rattle.sheet.specs.declared.names.Keyword.{Keyword}
 use Rattle.sheet.specs.declared.names.Keyword.TheVariants.{Field, Digits, Claim, Tail}
-use Rattle.sheet.specs.declared.names.FieldName.{FieldName}
 
--- what an outcome of the reading tells of the sheet
+-- what an outcome of the reading tells of what is wrong
 abbrev pub Told : List ℕ → Outcome → Type 0
-Told sheet (Ok ts) = HasForm sheet ts
+Told sheet (Ok ts) = Unit {0}
 Told sheet (Err s) = Faulty sheet s.tasks s.fault
 
 -- one task more
-tasks_more : (b : ℕ) (ts : List Entry) (text : List ℕ) (t : Entry) (own : List ℕ) → Tasks b ts text → t.byte ≡ b + length text → TaskText t own → Tasks b (ts ++ t ∷ []) (text ++ own)
+tasks_more : (b : ℕ) (ts : List Entry) (text : List ℕ) (t : Entry) (own : List ℕ) → Tasks b ts text [] → t.byte ≡ b + length text → TaskText t own → Tasks b (ts ++ t ∷ []) (text ++ own) []
 tasks_more b [] text t own none place h = (own, [], ap (λ v. v ++ own) none ∙ sym (append-nil own), place ∙ (let long = ap length none in omega arith), h, refl)
 tasks_more b (u ∷ ts) text t own (first, more, whole, start_is, task, rest) place h =
     let sum = ap length whole ∙ length-append first more in
@@ -109,17 +108,7 @@ module _ (sheet before s more : List ℕ) (free : lacks 10 s ≡ true) where
     tail_told : (ts : List Entry) (ws : List (List ℕ)) → Words Tail ws → Reached sheet ts start before (s ++ 10 ∷ more) → AreNumbers ws (places ts) → Told sheet (or_stop ts end (λ _. Ok ts))
     tail_told ts ws h r all =
         stop_by (Told sheet) ts end (λ _. Ok ts)
-        (λ u p.
-        let none : more ≡ [] = subst (EndTold (closed before + 1 + 1) (length before + length s + 1) more) p ih-end in
-        record {
-          short = r.short;
-          few = r.room;
-          tasks = r.tasks;
-          tail = s;
-          whole = r.whole ∙ ap (λ v. v ++ (s ++ 10 ∷ more)) (r.before_is ∙ ap (λ v. r.tasks ++ v) r.lines ∙ append-nil r.tasks) ∙ ap (λ m. r.tasks ++ (s ++ 10 ∷ m)) none;
-          body = r.body;
-          tail_line = record { words = ws; text = h.text; numbers = all };
-        })
+        (λ u p. tt)
         (λ e p.
         let t = subst (EndTold (closed before + 1 + 1) (length before + length s + 1) more) p ih-end in
         behind_tail before ws more (next_line Tail ws h ts start r) all t.0
@@ -179,13 +168,17 @@ module _ (sheet before s more : List ℕ) (free : lacks 10 s ≡ true) where
         (subst (λ n. Reached sheet (ts ++ entry n f ds cs ∷ []) start after_line more) (sym r.lines.0) (ends_task ts (claim_of b f ds) r f ds cs r.lines.1 line r.room)))
     line_told ts (claim_of b f ds) Tail ws h r = misplaced Tail ws h ts (claim_of b f ds) r refl
 
+parts_of : (ps : List (List ℕ)) → 0 < length ps → (w : List ℕ) × (ws : List (List ℕ)) × (ps ≡ w ∷ ws)
+parts_of [] h = absurd (omega arith)
+parts_of (w ∷ ws) h = (w, ws, refl)
+
 lines_told : (sheet : List ℕ) (ls : List (List ℕ)) (before : List ℕ) (l b : ℕ) (ts : List Entry) (due : Due) → AllLack 10 ls → l ≡ closed before + 1 → b ≡ length before → Reached sheet ts due before (rejoin 10 ls) → Told sheet (lines_after l b ls ts due)
 unfolding lines_after
 lines_told sheet [] before l b ts due lack l-is b-is r = unclosed due before [] r refl (ap (λ n. Order (spot n b)) l-is ∙ ap (λ n. Order (spot (closed before + 1) n)) b-is)
 lines_told sheet (s ∷ []) before l b ts due lack l-is b-is r = unclosed due before s (subst (Reached sheet ts due before) (append-nil s) r) lack.0 (ap (λ n. Order (spot n b)) l-is ∙ ap (λ n. Order (spot (closed before + 1) n)) b-is)
 lines_told sheet (s ∷ m ∷ ls) before l b ts due lack l-is b-is r =
     let more : List ℕ = rejoin 10 (m ∷ ls) in
-    let parts = split_parts 32 s in
+    let parts = parts_of (split 32 s) (split_some 32 s) in
     let w : List ℕ = parts.0 in
     let ws : List (List ℕ) = parts.1 in
     let text : s ≡ w ++ behind 32 ws = sym (rejoin_split 32 s) ∙ ap (rejoin 32) parts.2 in

@@ -7,10 +7,10 @@
 --   may_come due n k        a line with the keyword k may come where this is due, behind n whole tasks
 --   Reached sheet ts due before rest      `before` is the tasks ts and the lines of a task that is begun, all in order; the rest follows
 --   NextLine .. before w ws more          behind that comes a closed line, with the first word w and then the words ws; more follows
-use Rattle.sheet.specs.Lines.{Due, start, digits_of, claim_of}
-use Rattle.faults.specs.Parts.{AllLack, naming_line}
 use Rattle.std.specs.Prelude.{◌≡◌, ℕ, ◌+◌, ◌<◌, ◌≤◌, Bool, true, false, cond, List, [], ◌∷◌, ◌++◌, length, ◌==◌, nat_lt}
+use Rattle.faults.specs.Parts.{AllLack, naming_line}
 use Rattle.sheet.specs.Form.{Entry, behind, NumberLine, Naming, Tasks}
+use Rattle.sheet.specs.Lines.{Due, start, digits_of, claim_of}
 use Rattle.sheet.specs.Reading.{spot}
 use Rattle.sheet.specs.declared.fault.At.{At}
 use Rattle.sheet.specs.declared.names.FieldName.{FieldName}

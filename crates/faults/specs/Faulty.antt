@@ -7,11 +7,11 @@
 --   BadPlace ps ws said a e   the words begin with the first of the places ps, and then one is not the next place, or too many or too few
 --   Breaks k ps ws said a e   one of these, for a line with the keyword k
 --   Faulty sheet ts e         the sheet is in order up to the place of e, which stands behind the tasks ts, and there breaks the rule that e tells
-use Rattle.faults.specs.Parts.{bad_word, lacks, no_number}
 use Rattle.std.specs.Prelude.{◌≡◌, ℕ, ◌<◌, true, false, List, [], ◌∷◌, ◌++◌, length, ◌≢◌}
-use Rattle.sheet.specs.Lines.{Due, start}
 use Rattle.faults.specs.Begins.{place_behind, may_come, Reached, NextLine}
+use Rattle.faults.specs.Parts.{bad_word, lacks, no_number}
 use Rattle.sheet.specs.Form.{Entry, places, behind, AreNumbers}
+use Rattle.sheet.specs.Lines.{Due, start}
 use Rattle.sheet.specs.Names.{keyword, field_name_of}
 use Rattle.sheet.specs.Numeral.{Number}
 use Rattle.sheet.specs.declared.fault.At.{At}

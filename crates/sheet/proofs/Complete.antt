@@ -16,7 +16,7 @@ use Rattle.sheet.specs.declared.names.Keyword.TheVariants.{Field, Digits, Claim,
 use Rattle.sheet.specs.declared.names.FieldName.{FieldName}
 
 -- one line
-line_forward : (l b : ℕ) (k : Keyword) (ws : List (List ℕ)) (s more : List ℕ) (ts : List Entry) (due : Due) → s ≡ keyword k ++ behind 32 ws → AllLack 32 ws → AllLack 10 ws → lines_after l b (split 10 (s ++ 10 ∷ more)) ts due ≡ turn l b ts due (lines_after (l + 1) (b + length s + 1) (split 10 more)) (ended (l + 1) (b + length s + 1) (split 10 more)) k (b + length (keyword k)) ws
+pub line_forward : (l b : ℕ) (k : Keyword) (ws : List (List ℕ)) (s more : List ℕ) (ts : List Entry) (due : Due) → s ≡ keyword k ++ behind 32 ws → AllLack 32 ws → AllLack 10 ws → lines_after l b (split 10 (s ++ 10 ∷ more)) ts due ≡ turn l b ts due (lines_after (l + 1) (b + length s + 1) (split 10 more)) (ended (l + 1) (b + length s + 1) (split 10 more)) k (b + length (keyword k)) ws
 line_forward l b k ws s more ts due e no32 no10 =
     let after_open : Opened → Outcome = λ o. turn l b ts due (lines_after (l + 1) (b + length s + 1) (split 10 more)) (ended (l + 1) (b + length s + 1) (split 10 more)) o.keyword o.stop o.words in
     let free : lacks 10 s ≡ true = ap (lacks 10) e ∙ lacks_append 10 (keyword k) (behind 32 ws) (keyword_is k).1 (lacks_behind 10 32 ws (λ e. omega arith) no10) in

@@ -72,7 +72,7 @@ prepend_goes_on : (line byte : ℕ) (b : ℕ) (ws : List (List ℕ)) → ended l
 prepend_goes_on line byte b [] = refl
 prepend_goes_on line byte b (w ∷ ws) = cond-false (eqb (length (b ∷ w)) 0 && eqb (length ws) 0) (Ok tt) (Err (Order (spot line byte))) (and_left _ _ (ne_eqb (length (b ∷ w)) 0 (λ e. omega arith)))
 
-goes_on : (line byte : ℕ) (xs : List ℕ) → 0 < length xs → ended line byte (split 10 xs) ≡ Err (Order (spot line byte))
+pub goes_on : (line byte : ℕ) (xs : List ℕ) → 0 < length xs → ended line byte (split 10 xs) ≡ Err (Order (spot line byte))
 goes_on line byte [] h = absurd (omega arith)
 goes_on line byte (b ∷ bs) h =
     cond_both (eqb b 10) ([] ∷ split 10 bs) (prepend b (split 10 bs)) (λ ps. ended line byte ps ≡ Err (Order (spot line byte)))

@@ -105,7 +105,7 @@ place_sound a w b p =
     let r = cond_ok (eqb q.0 b) (Ok tt) (Place a) tt q.2 in
     subst (Number w) (eqb-true _ _ r.0) (due_sound a w q.0 (sheet_ok (number_due_of a w) q.0 q.1))
 
-place_complete : (a : At) (w : List ℕ) (b : ℕ) → Number w b → place_due_of a w b ≡ Ok tt
+pub place_complete : (a : At) (w : List ℕ) (b : ℕ) → Number w b → place_due_of a w b ≡ Ok tt
 place_complete a w b h =
     ap (λ r. and_then (as_sheet r) (λ n. cond (eqb n b) (Ok tt) (Err (Place a)))) (due_complete a w b h)
     ∙ cond-true (eqb b b) _ _ (eq-eqb b b refl)

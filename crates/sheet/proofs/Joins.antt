@@ -11,7 +11,7 @@ abbrev pub lacks : ℕ → List ℕ → Bool
 lacks stop [] = true
 lacks stop (b ∷ bs) = cond (eqb b stop) false (lacks stop bs)
 
-lacks_head : (stop b : ℕ) (bs : List ℕ) → lacks stop (b ∷ bs) ≡ true → (eqb b stop ≡ false) × (lacks stop bs ≡ true)
+pub lacks_head : (stop b : ℕ) (bs : List ℕ) → lacks stop (b ∷ bs) ≡ true → (eqb b stop ≡ false) × (lacks stop bs ≡ true)
 lacks_head stop b bs h =
     ⊎_elim
     (λ t. absurd (both_ways (lacks stop (b ∷ bs)) (cond-true (eqb b stop) false (lacks stop bs) t) h))

@@ -16,7 +16,7 @@ mod word;
 
 pub use exact::reading_is_exact;
 pub use fault::{At, Fault, Layer, LineFault, NumberFault, SheetFault};
-pub use names::{FieldName, default_field};
+pub use names::{FieldName, Keyword, default_field};
 pub use numbers::Numbers;
 pub use places::Places;
 pub use reader::Reader;

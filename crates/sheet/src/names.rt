@@ -5,7 +5,7 @@ ghost use Rattle.sheet.specs.Names.{the_default_field, keyword_for, field_of};
 
 /// The first word of a line.
 #[derive(Clone, Copy)]
-pub(crate) enum Keyword {
+pub enum Keyword {
     Field,
     Digits,
     Claim,

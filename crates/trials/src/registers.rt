@@ -16,7 +16,7 @@ fn built(taps: &[u16]) -> Result<Register, Fail> {
 fn a_register_takes_256_taps(rt: HostRuntime) -> Result<(), Fail> {
     let mut register = built(&[7, 8])?;
     assert_eq!(rt; register.build(&[1; 257]), Err(Refusal::TooManyTaps));
-    assert!(rt; register.taps() == &[7, 8]);
+    assert!(rt; register.taps() == [7, 8].as_slice());
     assert_eq!(rt; register.build(&[1; 256]), Ok(()));
     assert!(rt; register.taps().len() == 256);
     assert!(rt; Register::new().taps().len() == 0);

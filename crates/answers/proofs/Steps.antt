@@ -3,11 +3,13 @@ use Rattle.std.proofs.Common.{◌≡◌, ℕ, ◌+◌, List, [], ◌∷◌, ◌+
 use Rattle.sheet.specs.Form.{Entry}
 use Rattle.sheet.specs.Faults.{fault_of}
 use Rattle.sheet.specs.Calls.{ByNext, Opens, NextTask, NoTask, Refuses}
+use Rattle.faults.specs.Exact.{FaultsExactly}
+use Rattle.sheet.specs.declared.fault.Fault.{Fault}
 use Rattle.sheet.specs.declared.fault.SheetFault.{SheetFault}
 use Rattle.sheet.specs.declared.reader.Reader.{Reader}
 use Rattle.sheet.specs.declared.task.Next.{Next}
 use Rattle.sheet.specs.declared.task.Next.TheVariants.{Another, End}
-use Rattle.answers.specs.Answers.{Answered, AllAnswered, GoodSheet, FaultySheet}
+use Rattle.answers.specs.Answers.{Answered, AllAnswered, GoodSheet, FaultySheet, OneFault}
 use Rattle.answers.specs.Reading.{SoFar}
 use Rattle.answers.specs.declared.answer.Answer.{Answer}
 
@@ -52,3 +54,8 @@ pub so_far_faulty : (sheet : List ℕ) (r : Reader) (ps ps' : List ℕ) (list : 
 so_far_faulty sheet r ps ps' list e s f =
     let first = s.rest ∙ f.fails s.tasks s.places_are in
     record { tasks = s.tasks; fault = e; first = first; reported = refl; begun = s.exact.begun (record { tasks = s.tasks; fault = e }) first; no_form = s.exact.refused (record { tasks = s.tasks; fault = e }) first }
+
+pub one_fault : (sheet : List ℕ) → FaultsExactly sheet → (f : Fault) → FaultySheet sheet f → OneFault sheet f
+one_fault sheet x f s =
+    let told = x.faulty s.tasks s.fault s.first in
+    record { tasks = s.tasks; fault = s.fault; faulty = told; reported = s.reported; only = λ ts e h. s.reported ∙ ap fault_of (x.one_fault s.tasks ts s.fault e told h) }

@@ -3,10 +3,12 @@
 --   Answered t a               a is the answer to the task t
 --   AllAnswered ts list        the answers, one for each task, in their order
 --   SheetAnswered sheet r      the answers to the tasks of a sheet that has the form, or the first fault of one that has not
+--   OneFault sheet f           f is what is wrong with the sheet, and nothing else is
 use Rattle.std.specs.Prelude.{◌≡◌, ℕ, List, [], ◌∷◌, Some, None, Ok, Err, Result}
 use Rattle.field.specs.Meaning.{Meaning}
 use Rattle.synthesis.specs.Scratch.{scratch_cells_for}
 use Rattle.marking.specs.Marks.{Marked, mark_refusal}
+use Rattle.faults.specs.Faulty.{Faulty}
 use Rattle.sheet.specs.Faults.{fault_of}
 use Rattle.sheet.specs.Form.{Entry, Tasks, HasForm}
 use Rattle.sheet.specs.Lines.{stopped, reading}
@@ -49,3 +51,10 @@ pub record FaultySheet (sheet : List ℕ) (f : Fault) : Type 0 where
 abbrev pub SheetAnswered : List ℕ → Result Answers Fault → Type 0
 SheetAnswered sheet (Ok a) = GoodSheet sheet (answers_in a)
 SheetAnswered sheet (Err f) = FaultySheet sheet f
+
+pub record OneFault (sheet : List ℕ) (f : Fault) : Type 0 where
+  pub tasks : List Entry
+  pub fault : SheetFault
+  pub faulty : Faulty sheet tasks fault
+  pub reported : f ≡ fault_of fault
+  pub only : (ts : List Entry) (e : SheetFault) → Faulty sheet ts e → f ≡ fault_of e

@@ -5,12 +5,12 @@ ghost use Rattle.sheet.specs.Calls.{ByNext};
 ghost use Rattle.sheet.specs.Faults.{fault_of};
 ghost use Rattle.sheet.specs.Held.{noted};
 ghost use Rattle.sheet.specs.Views.{unread};
-ghost use Rattle.answers.specs.Answers.{GoodSheet, FaultySheet, SheetAnswered};
+ghost use Rattle.answers.specs.Answers.{GoodSheet, FaultySheet, SheetAnswered, OneFault};
 ghost use Rattle.answers.specs.Held.{answers_in};
 ghost use Rattle.answers.specs.Reading.{SoFar};
 
 use crate::answer::Answers;
-use crate::facts::reading_steps;
+use crate::facts::{first_fault_is_the_fault, reading_steps};
 use crate::fields::answer_task;
 use sheet::{Fault, Next, Places, Reader, SheetFault, Task};
 
@@ -48,9 +48,11 @@ fn answer_next(
 
 /// The answers to the tasks of a sheet, or the sheet's first fault.
 pub fn answer_sheet(sheet: &[u8]) -> Result<Answers, Fault>
-    ensures { SheetAnswered sheet.now result }
+    ensures answered { SheetAnswered sheet.now result }
+    ensures fault { MatchResult result (λ _. Unit {0}) (λ f. OneFault sheet.now f) }
 {
     reading_steps();
+    first_fault_is_the_fault(sheet);
     let mut reader = Reader::open(sheet);
     let mut places = Places::new();
     let mut task = Task::new();

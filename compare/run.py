@@ -1,8 +1,8 @@
 """Holds the program to the second marker, on sheets made from a fixed seed.
 
-    python3 compare/run.py [--share] [PROGRAM]
+    python3 compare/run.py [--share] [PROGRAM [SHEETS]]
 
-Without PROGRAM it is built first, by `rt run`. --share takes fewer sheets. Ends by 'N passed, M failed';
+Without PROGRAM it is built first, by `rt run`. --share takes fewer sheets, SHEETS as many as it says. Ends by 'N passed, M failed';
 what never came up, of all fields with all verdicts, all refusals and all faults, counts as failed.
 """
 
@@ -52,6 +52,8 @@ def a_task(rng):
     elif kind == 6:
         tried = [[rng.randrange(f.q) for _ in taps] for _ in range(20)]
         claim = next((t for t in tried if marker.first_break(f, t, digits) is None), claim)
+    elif kind == 7:
+        claim = [0] * (n + rng.randrange(3))
     return name, digits, claim
 
 
@@ -124,6 +126,7 @@ def edges(rng):
     for n in (32767, 32768, 32769):
         body = b"digits" + b" 0" * ((n - 20) // 2)
         yield body + b"0" * (n - len(body) - 14) + b"\nclaim\ntail 0\n"
+        yield body + b" " * (n - len(body) - 14) + b"\nclaim\ntail 0\n"
         yield b"x" * n
     for word in (b"0", b"00", b"9", b"65535", b"65536", b"99999", b"100000", b"-1", b"+1", b"1.", b"", b"p2"):
         yield b"digits " + word + b"\nclaim\ntail 0\n"
@@ -161,13 +164,14 @@ def built():
 def main(arguments):
     share = "--share" in arguments
     paths = [a for a in arguments if a != "--share"]
-    if len(paths) > 1 or any(p.startswith("-") for p in paths):
+    if len(paths) > 2 or any(p.startswith("-") for p in paths) or not all(p.isdigit() for p in paths[1:]):
         sys.exit(__doc__)
+    wanted = int(paths[1]) if len(paths) > 1 else SHARE if share else SHEETS
     program = pathlib.Path(paths[0]).resolve() if paths else built()
     began = time.monotonic()
     passed = failed = 0
     seen = collections.Counter()
-    for sheet in sheets(SHARE if share else SHEETS):
+    for sheet in sheets(wanted):
         expected, kinds = marker.answer(sheet)
         seen.update(kinds)
         run = subprocess.run([program], input=sheet, capture_output=True, check=False)

@@ -4,7 +4,7 @@
 usage: python3 tools/snake_case.py [--dry]     at the top of the repository
 
 Types and modules stay in camel case. Names of the library, and the names of goals that the check makes, stay as they are.
-Functions of src/, strings, inputs and outputs are not touched. A name that would fall together with another is refused.
+In src/ it turns the words of clauses; strings, inputs and outputs are not touched. It says which names would fall together, and SPECIAL parts them.
 """
 
 import collections

@@ -1,6 +1,6 @@
 -- A sheet that is read and answered task by task. Assumes nothing.
 --   SoFar sheet r ps list   the tasks read so far have the places ps and the answers of the list, and the reading goes on from r
---   ReadingSteps          what one task more, the tail or a fault makes of that
+--   ReadingSteps            what one task more, the tail or a fault makes of that
 use Rattle.std.specs.Prelude.{◌≡◌, ℕ, List, [], ◌∷◌, ◌++◌}
 use Rattle.sheet.specs.Form.{Entry, places}
 use Rattle.sheet.specs.Lines.{reading}

@@ -1,7 +1,7 @@
 -- The lines of output. Assumes nothing.
 --   verdict_word_of v, layer_word_of l   the word for a verdict, and for a layer
---   tasks_text n list             the lines of a list of answers, each closed by byte 10; the first is that of task n
---   line_text l                   number, verdict, shortest length, count and detail of a task; or its number, `refused`, the refusal's number, 0 and 0; or `fault`, number, layer, line and byte
+--   tasks_text n list                    the lines of a list of answers, each closed by byte 10; the first is that of task n
+--   line_text l                          number, verdict, shortest length, count and detail of a task; or its number, `refused`, the refusal's number, 0 and 0; or `fault`, number, layer, line and byte
 use Rattle.std.specs.Prelude.{ℕ, ◌+◌, List, [], ◌∷◌, ◌++◌, codes, decimal}
 use Rattle.field.specs.Refusals.{refusal_number}
 use Rattle.marking.specs.Verdicts.{detail}

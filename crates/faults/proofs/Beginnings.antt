@@ -3,13 +3,12 @@ use Rattle.std.proofs.Common.{◌≡◌, ℕ, ◌+◌, true, eqb, List, [], ◌�
 use Rattle.std.proofs.lemmas.Bool.{cond-true, cond-false, cond_both, eqb-false}
 use Rattle.faults.specs.Begins.{closed, place_behind}
 use Rattle.faults.specs.Faulty.{no_name, unknown_name, second_name, at_word, too_few, Breaks}
-use Rattle.faults.specs.Parts.{AllLack, lacks}
 use Rattle.sheet.proofs.Joins.{lacks_head, lacks_more, lacks_append}
 use Rattle.sheet.proofs.Known.{keyword_is}
 use Rattle.sheet.specs.Form.{behind}
 use Rattle.sheet.specs.Names.{keyword, field_name_of}
 use Rattle.sheet.specs.Reading.{spot}
-use Rattle.sheet.specs.Split.{prepend, split}
+use Rattle.sheet.specs.Split.{prepend, split, AllLack, lacks}
 use Rattle.sheet.specs.declared.fault.At.{At}
 use Rattle.sheet.specs.declared.fault.SheetFault.{SheetFault}
 use Rattle.sheet.specs.declared.names.Keyword.{Keyword}

@@ -8,7 +8,7 @@ use Rattle.faults.proofs.Outcomes.{stop_at}
 use Rattle.faults.proofs.Reaches.{reached_reads}
 use Rattle.faults.specs.Begins.{closed, place_behind, may_come, Reached, NextLine}
 use Rattle.faults.specs.Faulty.{Faulty, too_long, unclosed, unknown_word, out_of_order, in_line, behind_tail, Breaks}
-use Rattle.faults.specs.Parts.{bad_word, lacks}
+use Rattle.faults.specs.Parts.{bad_word}
 use Rattle.sheet.proofs.Complete.{line_forward}
 use Rattle.sheet.proofs.Cuts.{lines_step, not_last}
 use Rattle.sheet.proofs.Inverts.{places_complete}
@@ -17,7 +17,7 @@ use Rattle.sheet.specs.Form.{Entry, places, behind}
 use Rattle.sheet.specs.Lines.{Due, start, digits_of, claim_of, Outcome, stopped, or_stop, as_sheet, turn, ended, lines_after, reading}
 use Rattle.sheet.specs.Names.{keyword}
 use Rattle.sheet.specs.Reading.{spot, numbers_after, field_after, opened}
-use Rattle.sheet.specs.Split.{split}
+use Rattle.sheet.specs.Split.{split, lacks}
 use Rattle.sheet.specs.declared.fault.SheetFault.{SheetFault}
 use Rattle.sheet.specs.declared.fault.SheetFault.TheVariants.{Order}
 use Rattle.sheet.specs.declared.names.Keyword.{Keyword}

@@ -3,7 +3,7 @@ use Rattle.std.proofs.Common.{◌≡◌, ℕ, ◌+◌, ◌<◌, ◌≤◌, true,
 use Rattle.std.proofs.lemmas.Bool.{cond-true, cond-false, lt-ltb, le-ltb}
 use Rattle.faults.proofs.Beginnings.{closed_append, closed_line}
 use Rattle.faults.specs.Begins.{closed, Begun, Room, Reached}
-use Rattle.faults.specs.Parts.{AllLack, naming_line, lacks}
+use Rattle.faults.specs.Parts.{naming_line}
 use Rattle.sheet.proofs.Complete.{line_forward}
 use Rattle.sheet.proofs.Inverts.{numbers_complete, field_line_complete}
 use Rattle.sheet.proofs.Joins.{lacks_append, lacks_behind, numbers_lack}
@@ -12,7 +12,7 @@ use Rattle.sheet.specs.Form.{Entry, behind, NumberLine, Naming, plain, named, Ta
 use Rattle.sheet.specs.Lines.{Due, start, digits_of, claim_of, entry, Outcome, stopped, or_stop, as_sheet, turn, ended, lines_after, reading}
 use Rattle.sheet.specs.Names.{keyword, field_name_of, the_default_field}
 use Rattle.sheet.specs.Reading.{spot}
-use Rattle.sheet.specs.Split.{split}
+use Rattle.sheet.specs.Split.{split, AllLack, lacks}
 use Rattle.sheet.specs.declared.fault.SheetFault.{SheetFault}
 use Rattle.sheet.specs.declared.fault.SheetFault.TheVariants.{Order}
 use Rattle.sheet.specs.declared.names.FieldName.{FieldName}

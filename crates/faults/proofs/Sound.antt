@@ -7,14 +7,13 @@ use Rattle.faults.proofs.Inverts.{NumbersTold, numbers_told, NameTold, name_told
 use Rattle.faults.proofs.Outcomes.{stop_by}
 use Rattle.faults.specs.Begins.{closed, place_behind, Opening, Begun, Room, may_come, Reached, NextLine}
 use Rattle.faults.specs.Faulty.{BadNumber, Breaks, Faulty, too_long, unclosed, unknown_word, out_of_order, in_line, behind_tail}
-use Rattle.faults.specs.Parts.{AllLack, lacks}
 use Rattle.sheet.proofs.Joins.{rejoin, rejoin_split, lacks_behind}
 use Rattle.sheet.proofs.Splits.{split_some}
 use Rattle.sheet.specs.Form.{Entry, places, behind, AreNumbers, NumberLine, plain, named, TaskText, Tasks}
 use Rattle.sheet.specs.Lines.{Due, start, digits_of, claim_of, entry, Outcome, stopped, or_stop, as_sheet, turn, places_after, ended, lines_after, read_from, reading}
 use Rattle.sheet.specs.Names.{keyword, the_default_field}
 use Rattle.sheet.specs.Reading.{spot, numbers_after, field_after, Opened, opened}
-use Rattle.sheet.specs.Split.{split}
+use Rattle.sheet.specs.Split.{split, AllLack, lacks}
 use Rattle.sheet.specs.declared.fault.At.{At}
 use Rattle.sheet.specs.declared.fault.SheetFault.{SheetFault}
 use Rattle.sheet.specs.declared.fault.SheetFault.TheVariants.{Order}

@@ -1,14 +1,14 @@
 -- A sheet that is in order up to where a line begins. Assumes nothing.
---   closed text            how many lines the text closes
---   place_behind text       the place right behind a text with which the sheet begins
---   Opening f ds text      the text is the closed lines of a task before its claim: its field is f and its digits are ds
---   Begun b due text       the text is the closed lines of a task that begins at the byte b, up to what is due
---   Room due n             n whole tasks leave room for the one that is begun
---   may_come due n k        a line with the keyword k may come where this is due, behind n whole tasks
---   Reached sheet ts due before rest      `before` is the tasks ts and the lines of a task that is begun, all in order; the rest follows
---   NextLine .. before w ws more          behind that comes a closed line, with the first word w and then the words ws; more follows
+--   closed text         how many lines the text closes
+--   place_behind text   the place right behind a text with which the sheet begins
+--   Opening f ds text   the text is the closed lines of a task before its claim: its field is f and its digits are ds
+--   Begun b due text    the text is the closed lines of a task that begins at the byte b, up to what is due
+--   Room due n          n whole tasks leave room for the one that is begun
+--   may_come due n k    a line with the keyword k may come where this is due, behind n whole tasks
+--   Reached sheet ts due before rest   `before` is the tasks ts and the lines of a task that is begun, all in order; the rest follows
+--   NextLine .. before w ws more       behind that comes a closed line, with the first word w and then the words ws; more follows
 use Rattle.std.specs.Prelude.{◌≡◌, ℕ, ◌+◌, ◌<◌, ◌≤◌, Bool, true, false, cond, List, [], ◌∷◌, ◌++◌, length, ◌==◌, nat_lt}
-use Rattle.faults.specs.Parts.{AllLack, naming_line}
+use Rattle.faults.specs.Parts.{naming_line}
 use Rattle.sheet.specs.Form.{Entry, behind, NumberLine, Naming, Tasks}
 use Rattle.sheet.specs.Lines.{Due, start, digits_of, claim_of}
 use Rattle.sheet.specs.Reading.{spot}
@@ -16,6 +16,7 @@ use Rattle.sheet.specs.declared.fault.At.{At}
 use Rattle.sheet.specs.declared.names.FieldName.{FieldName}
 use Rattle.sheet.specs.declared.names.Keyword.{Keyword}
 use Rattle.sheet.specs.declared.names.Keyword.TheVariants.{Field, Digits, Claim, Tail}
+use Rattle.sheet.specs.Split.{AllLack}
 
 abbrev pub closed : List ℕ → ℕ
 closed [] = 0

@@ -9,7 +9,7 @@
 --   Faulty sheet ts e         the sheet is in order up to the place of e, which stands behind the tasks ts, and there breaks the rule that e tells
 use Rattle.std.specs.Prelude.{◌≡◌, ℕ, ◌<◌, true, false, List, [], ◌∷◌, ◌++◌, length, ◌≢◌}
 use Rattle.faults.specs.Begins.{place_behind, may_come, Reached, NextLine}
-use Rattle.faults.specs.Parts.{bad_word, lacks, no_number}
+use Rattle.faults.specs.Parts.{bad_word, no_number}
 use Rattle.sheet.specs.Form.{Entry, places, behind, AreNumbers}
 use Rattle.sheet.specs.Lines.{Due, start}
 use Rattle.sheet.specs.Names.{keyword, field_name_of}
@@ -20,6 +20,7 @@ use Rattle.sheet.specs.declared.fault.SheetFault.TheVariants.{Order, Place}
 use Rattle.sheet.specs.declared.names.FieldName.{FieldName}
 use Rattle.sheet.specs.declared.names.Keyword.{Keyword}
 use Rattle.sheet.specs.declared.names.Keyword.TheVariants.{Field, Digits, Claim, Tail}
+use Rattle.sheet.specs.Split.{lacks}
 
 pub data NoNumber (w : List ℕ) (a : At) (e : SheetFault) : Type 0 where
   empty_word : w ≡ [] → e ≡ bad_word a → NoNumber w a e

@@ -1,9 +1,7 @@
--- Words for the parts of a text and for the faults of a word. Assumes nothing.
---   lacks stop text         no byte of the text is the stop
---   AllLack stop ws         that of each of the pieces ws
+-- The line that names a field, and the faults of a word. Assumes nothing.
 --   naming_line f             the `field` line that names f
 --   bad_word a, no_number a   the faults of a line's word at a
-use Rattle.std.specs.Prelude.{◌≡◌, ℕ, Bool, true, false, cond, List, [], ◌∷◌, ◌++◌, ◌==◌}
+use Rattle.std.specs.Prelude.{ℕ, List, [], ◌∷◌, ◌++◌}
 use Rattle.sheet.specs.Form.{behind}
 use Rattle.sheet.specs.Names.{keyword, field_name_of}
 use Rattle.sheet.specs.declared.fault.At.{At}
@@ -12,14 +10,6 @@ use Rattle.sheet.specs.declared.fault.SheetFault.{SheetFault}
 use Rattle.sheet.specs.declared.fault.SheetFault.TheVariants.{Line}
 use Rattle.sheet.specs.declared.names.FieldName.{FieldName}
 use Rattle.sheet.specs.declared.names.Keyword.TheVariants.{Field}
-
-abbrev pub lacks : ℕ → List ℕ → Bool
-lacks stop [] = true
-lacks stop (b ∷ bs) = cond (b == stop) false (lacks stop bs)
-
-abbrev pub AllLack : ℕ → List (List ℕ) → Type 0
-AllLack stop [] = Unit {0}
-AllLack stop (w ∷ ws) = (lacks stop w ≡ true) × AllLack stop ws
 
 abbrev pub naming_line : FieldName → List ℕ
 naming_line f = keyword Field ++ behind 32 (field_name_of f ∷ [])

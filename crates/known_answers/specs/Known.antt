@@ -2,11 +2,11 @@
 --   p2, p5, p251, b256, t256   the fields that the strings are over, by their names on a sheet
 --   Answer                     a length, taps, a count, and the taps that `other` writes, or nothing
 --   KnownAnswer                a field, digits of it, and the answer
---   answer_for m w              the answer, from the steps over w
+--   answer_for m w             the answer, from the steps over w
 --   Known a                    the answer is that of the steps
 --   AllKnown answers           so is each of a list
 --   known m w l taps n other   an entry of the list: field, digits, and the answer's four parts
---   known_answer_list               the list
+--   known_answer_list          the list
 use Rattle.std.specs.Prelude.{◌≡◌, ℕ, List, [], ◌∷◌, Some, None, Option}
 use Rattle.std.specs.Option.{option_and}
 use Rattle.field.specs.Meaning.{Meaning}

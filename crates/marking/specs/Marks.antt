@@ -1,14 +1,14 @@
 -- The mark of a claim on a string. Assumes nothing.
---   Judged m w claim v      what the verdict v says of the claim: it breaks the rule at that place and not before; it generates w and is so much
---                           longer than a shortest register; it is a shortest one and no other of its length generates w, or another does
---   Marked m w claim k      the mark k has such a verdict, the length of a shortest register, and the count of Massey's steps over w
---   Decided ..              the verdict on a claim that generates w, by lengths
---   OneVerdict              no claim has two verdicts
---   claim_refusal m w claim  why a claim is refused: too many taps, too many digits, a tap or a digit that is none
+--   Judged m w claim v             what the verdict v says of the claim: it breaks the rule at that place and not before; it generates w and is so much
+--                                  longer than a shortest register; it is a shortest one and no other of its length generates w, or another does
+--   Marked m w claim k             the mark k has such a verdict, the length of a shortest register, and the count of Massey's steps over w
+--   Decided ..                     the verdict on a claim that generates w, by lengths
+--   OneVerdict                     no claim has two verdicts
+--   claim_refusal m w claim        why a claim is refused: too many taps, too many digits, a tap or a digit that is none
 --   mark_refusal m w claim cells   why marking in that many cells is refused: that, or too few cells
---   beats v u               a claim with the verdict v counts before one with the verdict u
+--   beats v u                      a claim with the verdict v counts before one with the verdict u
 --   Better m w first second taps   the taps of the claim that counts: the second where its verdict beats the first's, else the first
---   better_refusal ..        why this is refused: as marking refuses the first claim, then the second
+--   better_refusal ..              why this is refused: as marking refuses the first claim, then the second
 use Rattle.std.specs.Prelude.{◌≡◌, ℕ, ◌+◌, ◌*◌, ◌<◌, ◌≤◌, Bool, true, false, cond, ◌&&◌, List, length, Some, None, Option, nat_le, nat_lt}
 use Rattle.field.specs.Meaning.{Meaning}
 use Rattle.field.specs.declared.refusal.Refusal.{Refusal}

@@ -1,6 +1,6 @@
 -- The verdicts on a claim. Assumes nothing.
 --   verdict_number v   1 wrong, 2 long, 3 only, 4 several
---   detail v          the broken place, the excess, or 0
+--   detail v           the broken place, the excess, or 0
 use Rattle.std.specs.Prelude.{ℕ}
 use Rattle.marking.specs.declared.verdict.Verdict.{Verdict}
 use Rattle.marking.specs.declared.verdict.Verdict.TheVariants.{Wrong, Long, Only, Several}

@@ -2,14 +2,14 @@
 -- A register is the list of its taps, and its length is that of the list.
 --   register_of st         the register of a state: the taps of row C
 --   other_of m st          the register of the row C + x^j · B, with as many taps
---   expected m w          the digit that the register of the steps over w gives next: the negative of its feedback
---   Shortest m w taps     a register that generates w, as no shorter one does
---   ShortestLength m w l  the length of such a register
---   Another m w taps      some other register of the same length generates w
---   IsOther m w st        other_of generates w, and first differs from register_of at tap j
---   Expected m w x        with x after w, and with no other digit, the register of the steps over w leaves no discrepancy
---   CountWithin l k n     n multiplications are within the bounds for k digits and l taps
---   InBounds m k st       what holds of the cells of a state with k digits taken
+--   expected m w           the digit that the register of the steps over w gives next: the negative of its feedback
+--   Shortest m w taps      a register that generates w, as no shorter one does
+--   ShortestLength m w l   the length of such a register
+--   Another m w taps       some other register of the same length generates w
+--   IsOther m w st         other_of generates w, and first differs from register_of at tap j
+--   Expected m w x         with x after w, and with no other digit, the register of the steps over w leaves no discrepancy
+--   CountWithin l k n      n multiplications are within the bounds for k digits and l taps
+--   InBounds m k st        what holds of the cells of a state with k digits taken
 use Rattle.std.specs.Prelude.{◌≡◌, ℕ, suc, ◌+◌, ◌-◌, ◌*◌, ◌<◌, ◌≤◌, ◌↔◌, List, [], ◌∷◌, ◌++◌, map, length}
 use Rattle.std.specs.List.{range_with_len}
 use Rattle.field.specs.Laws.{FieldLaws}

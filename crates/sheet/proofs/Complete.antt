@@ -3,13 +3,13 @@ use Rattle.std.proofs.Common.{◌≡◌, ℕ, ◌+◌, ◌<◌, ◌≤◌, true,
 use Rattle.std.proofs.lemmas.Bool.{cond-true, cond-false, lt-ltb, le-ltb}
 use Rattle.sheet.proofs.Cuts.{lines_step, not_last}
 use Rattle.sheet.proofs.Inverts.{numbers_complete, field_line_complete, places_complete, opened_complete}
-use Rattle.sheet.proofs.Joins.{lacks, lacks_append, lacks_behind, AllLack, numbers_lack, split_cut, split_behind}
+use Rattle.sheet.proofs.Joins.{lacks_append, lacks_behind, numbers_lack, split_cut, split_behind}
 use Rattle.sheet.proofs.Known.{keyword_is, name_is}
 use Rattle.sheet.specs.Form.{Entry, places, behind, NumberLine, Naming, plain, named, TaskText, Tasks, HasForm}
 use Rattle.sheet.specs.Lines.{entry, Due, start, digits_of, claim_of, Outcome, stopped, or_stop, as_sheet, turn, ended, lines_after, reading}
 use Rattle.sheet.specs.Names.{keyword, field_name_of, the_default_field}
 use Rattle.sheet.specs.Reading.{spot, Opened, opened}
-use Rattle.sheet.specs.Split.{split}
+use Rattle.sheet.specs.Split.{split, lacks, AllLack}
 use Rattle.sheet.specs.declared.fault.SheetFault.TheVariants.{Order}
 use Rattle.sheet.specs.declared.names.Keyword.{Keyword}
 use Rattle.sheet.specs.declared.names.Keyword.TheVariants.{Field, Digits, Claim, Tail}

@@ -1,15 +1,10 @@
 -- Pieces joined are split again, and the other way round.
-use Rattle.std.proofs.Common.{◌≡◌, ℕ, ◌<◌, Bool, true, false, cond, eqb, List, [], ◌∷◌, ◌++◌, length, sym, refl, ap, ◌∙◌, ⊎_elim, append-nil, arith}
+use Rattle.std.proofs.Common.{◌≡◌, ℕ, ◌<◌, true, false, eqb, List, [], ◌∷◌, ◌++◌, length, sym, refl, ap, ◌∙◌, ⊎_elim, append-nil, arith}
 use Rattle.std.proofs.lemmas.Bool.{eq-eqb, ne_eqb, eqb-true, cond-true, cond-false, cond_both, cases_Bool, both_ways}
 use Rattle.sheet.proofs.Splits.{split_some}
 use Rattle.sheet.specs.Form.{behind, AreNumbers}
 use Rattle.sheet.specs.Numeral.{Figures}
-use Rattle.sheet.specs.Split.{prepend, split}
-
--- no byte of the text is the stop
-abbrev pub lacks : ℕ → List ℕ → Bool
-lacks stop [] = true
-lacks stop (b ∷ bs) = cond (eqb b stop) false (lacks stop bs)
+use Rattle.sheet.specs.Split.{prepend, split, lacks, AllLack}
 
 pub lacks_head : (stop b : ℕ) (bs : List ℕ) → lacks stop (b ∷ bs) ≡ true → (eqb b stop ≡ false) × (lacks stop bs ≡ true)
 lacks_head stop b bs h =
@@ -38,10 +33,6 @@ split_whole stop [] h = refl
 split_whole stop (b ∷ bs) h =
     let p = lacks_head stop b bs h in
     cond-false (eqb b stop) _ _ p.0 ∙ ap (prepend b) (split_whole stop bs p.1)
-
-abbrev pub AllLack : ℕ → List (List ℕ) → Type 0
-AllLack stop [] = Unit {0}
-AllLack stop (w ∷ ws) = (lacks stop w ≡ true) × AllLack stop ws
 
 pub split_behind : (stop : ℕ) (w : List ℕ) (ws : List (List ℕ)) → lacks stop w ≡ true → AllLack stop ws → split stop (w ++ behind stop ws) ≡ w ∷ ws
 split_behind stop w [] h hs = ap (split stop) (append-nil w) ∙ split_whole stop w h

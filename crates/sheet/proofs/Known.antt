@@ -3,7 +3,7 @@ use Rattle.std.proofs.Common.{◌≡◌, ℕ, true, List, [], ◌∷◌, Some, N
 use Rattle.std.specs.Str.{bytes_eq}
 use Rattle.std.proofs.lemmas.Slice.Eq.{bytes_eq-Decides}
 use Rattle.std.proofs.lemmas.Bool.{cond-true, cond-false, cases_Bool}
-use Rattle.sheet.proofs.Joins.{lacks}
+use Rattle.sheet.specs.Split.{lacks}
 use Rattle.sheet.specs.Names.{keyword, field_name_of, keywords, fields, first_of, keyword_for, field_of}
 use Rattle.sheet.specs.Numeral.{numeral}
 use Rattle.sheet.specs.Words.{kind_by, kind_of, as_keyword, as_name, as_number}

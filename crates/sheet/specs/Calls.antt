@@ -1,9 +1,9 @@
 -- What the calls of the reader promise. Assumes nothing.
---   Opens sheet r             r stands at the first byte of the sheet, and the reading of the sheet agrees with its form
---   ByNext n P Q              P where another task comes next, Q at the end
---   NextTask r0 ps0 t r1 ps1  behind any tasks with the places ps0, reading from r0 is reading from r1 with the task t appended
---   NoTask r ps0 ps1 t0 t1    behind any tasks with the places ps0, r is at the tail, and the tasks are all that the sheet has
---   Refuses r ps0 e ps1       behind any tasks with the places ps0, reading from r stops with the fault e
+--   Opens sheet r              r stands at the first byte of the sheet, and the reading of the sheet agrees with its form
+--   ByNext n P Q               P where another task comes next, Q at the end
+--   NextTask r0 ps0 t r1 ps1   behind any tasks with the places ps0, reading from r0 is reading from r1 with the task t appended
+--   NoTask r ps0 ps1 t0 t1     behind any tasks with the places ps0, r is at the tail, and the tasks are all that the sheet has
+--   Refuses r ps0 e ps1        behind any tasks with the places ps0, reading from r stops with the fault e
 use Rattle.std.specs.Prelude.{◌≡◌, ℕ, ◌<◌, List, [], ◌∷◌, ◌++◌, Ok}
 use Rattle.sheet.specs.Exact.{ReadsExactly}
 use Rattle.sheet.specs.Form.{Entry, places}

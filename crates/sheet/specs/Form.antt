@@ -1,13 +1,13 @@
 -- The form of a sheet, as a grammar: the text that a list of tasks may have. Assumes nothing.
---   Entry                 a task: the byte where its first line begins, its field, its digits and its claim
---   places ts             the bytes where the tasks begin
---   behind stop words     the stop and a word, again and again
---   AreNumbers words ns   the words are the numbers ns
---   NumberLine k line ns  the line is the keyword k and the numbers ns, each behind one blank
---   Naming f text         the text is the closed `field` line of the field f; or nothing, and f is the default field
---   TaskText t text       the text is the closed lines of the task t
+--   Entry                     a task: the byte where its first line begins, its field, its digits and its claim
+--   places ts                 the bytes where the tasks begin
+--   behind stop words         the stop and a word, again and again
+--   AreNumbers words ns       the words are the numbers ns
+--   NumberLine k line ns      the line is the keyword k and the numbers ns, each behind one blank
+--   Naming f text             the text is the closed `field` line of the field f; or nothing, and f is the default field
+--   TaskText t text           the text is the closed lines of the task t
 --   Tasks byte ts text rest   the text is that of the tasks ts, one behind the other from the byte on, and then the rest
---   HasForm bytes ts      the bytes are a sheet with the tasks ts: their texts and the tail line with their places
+--   HasForm bytes ts          the bytes are a sheet with the tasks ts: their texts and the tail line with their places
 use Rattle.std.specs.Prelude.{◌≡◌, ℕ, ◌+◌, ◌≤◌, List, [], ◌∷◌, ◌++◌, length}
 use Rattle.sheet.specs.Names.{keyword, field_name_of, the_default_field}
 use Rattle.sheet.specs.Numeral.{Number}

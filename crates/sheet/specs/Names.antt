@@ -1,9 +1,9 @@
 -- The keywords and the field names that a sheet knows. Assumes nothing.
 --   keyword k, field_name_of f   the bytes of a keyword, of a field's name
---   the_default_field             the field of a task that names none
---   keywords, fields         all of them
---   first_of text xs w        the first of xs whose text is w
---   keyword_for w, field_of w   the keyword, the field with the bytes w
+--   the_default_field            the field of a task that names none
+--   keywords, fields             all of them
+--   first_of text xs w           the first of xs whose text is w
+--   keyword_for w, field_of w    the keyword, the field with the bytes w
 use Rattle.std.specs.Prelude.{ℕ, cond, List, [], ◌∷◌, Some, None, codes, Option}
 use Rattle.std.specs.Str.{bytes_eq}
 use Rattle.sheet.specs.declared.names.Keyword.{Keyword}

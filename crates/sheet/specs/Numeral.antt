@@ -1,7 +1,7 @@
 -- A number of a sheet: 1 to 5 figures, no leading zero unless it is 0, at most 65,535. Assumes nothing.
 --   Figure b          the byte b is one of 0 to 9
 --   Figures w         each byte of w is a figure
---   value_after n w    the number that the figures w write behind others of value n
+--   value_after n w   the number that the figures w write behind others of value n
 --   Number w n        the word w is the number n
 --   numeral w         the number that w is, if it is one, by a computation
 use Rattle.std.specs.Prelude.{◌≡◌, ℕ, ◌+◌, ◌-◌, ◌*◌, ◌≤◌, Bool, cond, ◌&&◌, ◌||◌, List, [], ◌∷◌, length, Some, None, Option, ◌==◌, nat_le, nat_lt, slice_index, slice_index_or}

@@ -1,10 +1,10 @@
 -- What is read from the words of a line, or the first fault. Assumes nothing.
---   spot l b             the byte b in the line l
---   and_then r f          go on with what was read, or keep the fault
---   number_due_of a w        the number that the word w at a is
+--   spot l b                  the byte b in the line l
+--   and_then r f              go on with what was read, or keep the fault
+--   number_due_of a w         the number that the word w at a is
 --   numbers_after l b ns ws   ns, and then the numbers that the words ws are; the last word ended at the byte b of the line l
---   field_after l b ws    the field that the one word in ws names
---   opened l b ws        a line, from the byte b on, with its first word known
+--   field_after l b ws        the field that the one word in ws names
+--   opened l b ws             a line, from the byte b on, with its first word known
 use Rattle.std.specs.Prelude.{ℕ, ◌+◌, cond, List, [], ◌∷◌, ◌++◌, length, Ok, Err, Result, ◌==◌}
 use Rattle.std.specs.Option.{ok_or}
 use Rattle.sheet.specs.Words.{kind_of, as_keyword, as_name, as_number}

@@ -3,14 +3,14 @@
 --   line_end v              the byte where the line ends
 --   places_left v ps        the words left are the places ps, or the fault
 --   from_line l r ts        what is read from the opened line l and then from r on, where a task or the tail is due
---   NextWord, NoWord       one word of a line, or its end
---   LineOpened, LineRead   the line is opened; the next line of the sheet is
---   DigitsRead, ClaimRead  the digits line, the claim line is read
---   Room, Full             one more task may begin, or there are 32
---   OpeningRead, TaskRead  the lines up to the digits, the whole task is read
---   PlaceHolds             the next word is the place
---   TailRead               the tail line is true, and nothing follows
---   .. Fail, .. Fails      the fault there
+--   NextWord, NoWord        one word of a line, or its end
+--   LineOpened, LineRead    the line is opened; the next line of the sheet is
+--   DigitsRead, ClaimRead   the digits line, the claim line is read
+--   Room, Full              one more task may begin, or there are 32
+--   OpeningRead, TaskRead   the lines up to the digits, the whole task is read
+--   PlaceHolds              the next word is the place
+--   TailRead                the tail line is true, and nothing follows
+--   .. Fail, .. Fails       the fault there
 use Rattle.std.specs.Prelude.{◌≡◌, ℕ, ◌+◌, ◌<◌, ◌≤◌, List, [], ◌∷◌, ◌++◌, length, Ok, Err, Result, ◌≢◌}
 use Rattle.sheet.specs.Form.{Entry, places}
 use Rattle.sheet.specs.Lines.{entry, Due, start, digits_of, claim_of, Outcome, stopped, turn, places_after}

@@ -1,6 +1,6 @@
 -- What the reader and its task stand for. Assumes nothing.
---   entry_of t        the task that t holds
---   empty_entry       a task with no numbers, at byte 0, over the default field
+--   entry_of t       the task that t holds
+--   empty_entry      a task with no numbers, at byte 0, over the default field
 --   from r ts due    what is read from r's place on, behind the tasks ts
 --   remaining r ts   the same where a task or the tail is due; a sheet that is too long has that fault before any other
 --   Short r          the sheet is not too long

@@ -1,9 +1,9 @@
 -- The kind of a word. Assumes nothing.
---   Kind                       a keyword, a field's name, a number, or none of these
---   kind_by n k f               the kind of what is the number n, the keyword k or the field's name f
---   kind_of w                   the kind of the bytes w
+--   Kind                             a keyword, a field's name, a number, or none of these
+--   kind_by n k f                    the kind of what is the number n, the keyword k or the field's name f
+--   kind_of w                        the kind of the bytes w
 --   as_keyword, as_name, as_number   what a word of that kind tells
---   kind_in, text_of, place_of    the kind, the bytes and the place that the reader's word tells
+--   kind_in, text_of, place_of       the kind, the bytes and the place that the reader's word tells
 use Rattle.std.specs.Prelude.{ℕ, List, Some, None, Option}
 use Rattle.sheet.specs.Names.{keyword_for, field_of}
 use Rattle.sheet.specs.Numeral.{numeral}

@@ -32,7 +32,7 @@ fn written(heap: Global, text: &str, part: &str) -> Result<Vec<u8>, Fail> {
 
 fn holds(rt: &(impl Abort + AllocGlobal), row: &str, part: &str) -> Result<(), Fail> {
     let Some((sheet, answer)) = row.split_once(" => ") else {
-        return Err(Fail::new("a row with no answer"));
+        return Err(Fail::new(format!(in rt.alloc(); "a row with no answer: {row}")?));
     };
     let sheet = written(rt.alloc(), sheet, part)?;
     let expected = written(rt.alloc(), answer, "")?;

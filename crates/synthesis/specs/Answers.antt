@@ -1,11 +1,11 @@
 -- What an analyser answers, by the digits kept. Assumes nothing.
---   ShownOf m w t            the length, the digits and the count shown are those of the steps over w
---   other_taps_of m w            how many taps the other register for w has to write: none where there is no other
+--   ShownOf m w t             the length, the digits and the count shown are those of the steps over w
+--   other_taps_of m w         how many taps the other register for w has to write: none where there is no other
 --   other_answer m w          the first tap that differs, or nothing where there is no other
---   OtherWritten m w c c' o  the other register for w stands in front in the cells c', or they are c where there is none
---   Promised m w taps n      a shortest register for w, beside which there is another just where twice its length passes that of w, and n
---                            multiplications are within the bounds
---   Rival m w taps j other   another register of that length generates w, and first differs at tap j
+--   OtherWritten m w c c' o   the other register for w stands in front in the cells c', or they are c where there is none
+--   Promised m w taps n       a shortest register for w, beside which there is another just where twice its length passes that of w, and n
+--                             multiplications are within the bounds
+--   Rival m w taps j other    another register of that length generates w, and first differs at tap j
 use Rattle.std.specs.Prelude.{◌≡◌, ℕ, suc, ◌-◌, ◌*◌, ◌<◌, ◌≤◌, cond, ◌↔◌, List, length, Some, None, Option, nat_le}
 use Rattle.field.specs.Meaning.{Meaning}
 use Rattle.register.specs.Strings.{at, Digits, Generates}

@@ -1,11 +1,11 @@
 -- The digits that an analyser keeps, and why its calls are refused. Assumes nothing.
---   kept st              the digits that a state keeps
---   the_default_field         what the field of an analyser made with no named field means
---   fed q w s            the digits kept once s was fed: s is kept where it is a digit, one of q, and there is room
---   trimmed w t          the digits kept once the string was trimmed to t
---   feed_refusal q w s    why s is not taken after w: no room, no digit
---   trim_refusal w t      why w is not trimmed to t: it has fewer digits
---   room_refusal n cells  why n taps are not written into so many cells
+--   kept st                the digits that a state keeps
+--   the_default_field      what the field of an analyser made with no named field means
+--   fed q w s              the digits kept once s was fed: s is kept where it is a digit, one of q, and there is room
+--   trimmed w t            the digits kept once the string was trimmed to t
+--   feed_refusal q w s     why s is not taken after w: no room, no digit
+--   trim_refusal w t       why w is not trimmed to t: it has fewer digits
+--   room_refusal n cells   why n taps are not written into so many cells
 use Rattle.std.specs.Prelude.{ℕ, cond, List, [], ◌∷◌, ◌++◌, length, take, Some, None, Option, nat_le, nat_lt}
 use Rattle.field.specs.Meaning.{Meaning}
 use Rattle.field.specs.declared.refusal.Refusal.{Refusal}

@@ -1,12 +1,12 @@
 -- Whole runs of calls, and what they promise. Assumes nothing.
---   called q w call         the digits kept once a call was made
---   performed q w calls     the digits kept once all were made, whatever they answered
+--   called q w call          the digits kept once a call was made
+--   performed q w calls      the digits kept once all were made, whatever they answered
 --   run_refusal m w n o      why a run that leaves w is not reported in n cells and o others
---   Reported ..             what is reported of w, by the steps over it
---   OtherFound ..           there is a rival, which stands in the first cells, or there is none and no cell has changed
---   Found ..                the promise: what is reported of w, in terms of all the registers that generate it
---   ReportedOr, FoundOr ..  that of a run that was not refused, and of one that was, that it changed no cell
---   CallSteps calls         the digits kept, call by call
+--   Reported ..              what is reported of w, by the steps over it
+--   OtherFound ..            there is a rival, which stands in the first cells, or there is none and no cell has changed
+--   Found ..                 the promise: what is reported of w, in terms of all the registers that generate it
+--   ReportedOr, FoundOr ..   that of a run that was not refused, and of one that was, that it changed no cell
+--   CallSteps calls          the digits kept, call by call
 use Rattle.std.specs.Prelude.{◌≡◌, ℕ, ◌+◌, ◌*◌, ◌<◌, ◌≤◌, cond, List, [], ◌∷◌, length, take, drop, Some, None, Ok, Err, Option, Result, nat_lt, slice_index_or}
 use Rattle.field.specs.Meaning.{Meaning}
 use Rattle.field.specs.declared.refusal.Refusal.{Refusal}

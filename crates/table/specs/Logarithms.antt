@@ -1,16 +1,16 @@
 -- The field of 256 digits by the powers of 2 and their logarithms. Assumes nothing.
---   doubled a            a doubled, with 285 taken out by exclusive or where the double is 256 or more
---   doublings n a        n numbers from a on, each next one the last doubled
---   powers               the 255 powers of 2, from 1 on
---   power i              the power i of 2, for i below 255
---   place a xs           the place where a stands first in xs, or their number where it does not
---   logarithm a          the place of a in the powers: the i of which a is the power, or 255 for 0, which is none
---   logarithms_from n a  those of the n numbers from a on
---   logarithms           those of 0 .. 255
---   wrapped i            i, less 255 where it is 255 or more
---   product a b          the power of the wrapped sum of the logarithms, or 0 where one of the two is 0
---   by_logarithms        the 256 digits, whose sum is the exclusive or, and whose product is that
---   listed q             a field of q digits is made
+--   doubled a             a doubled, with 285 taken out by exclusive or where the double is 256 or more
+--   doublings n a         n numbers from a on, each next one the last doubled
+--   powers                the 255 powers of 2, from 1 on
+--   power i               the power i of 2, for i below 255
+--   place a xs            the place where a stands first in xs, or their number where it does not
+--   logarithm a           the place of a in the powers: the i of which a is the power, or 255 for 0, which is none
+--   logarithms_from n a   those of the n numbers from a on
+--   logarithms            those of 0 .. 255
+--   wrapped i             i, less 255 where it is 255 or more
+--   product a b           the power of the wrapped sum of the logarithms, or 0 where one of the two is 0
+--   by_logarithms         the 256 digits, whose sum is the exclusive or, and whose product is that
+--   listed q              a field of q digits is made
 use Rattle.std.specs.Prelude.{ℕ, zero, suc, ◌+◌, ◌-◌, ◌*◌, Bool, cond, List, [], ◌∷◌, ◌==◌, bit_xor, nat_lt, slice_index}
 use Rattle.field.specs.Meaning.{Meaning}
 

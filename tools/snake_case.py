@@ -88,7 +88,6 @@ def main(dry):
         mine = set()
         for m in FROM_KIT.finditer(text):
             mine |= {n.strip() for n in m[1].split(",")}
-        mine |= KEEP.get(path, set())
 
         def turn(m):
             n = m[0]
@@ -110,9 +109,6 @@ def main(dry):
             open(path, "w", encoding="utf-8").write(new)
     print(len(turned), "names")
 
-
-# Files in which a name of the library stays, though the repository has one like it elsewhere.
-KEEP = {}
 
 # Names that would fall together with a function of src/ in scope beside them, or with one another.
 SPECIAL = {

@@ -1,5 +1,5 @@
 // Reads and marks a sheet in one pass.
-ghost use Rattle.std.specs.Prelude.{◌≡◌, ℕ, ◌<◌, List, length, IfOk, MatchResult};
+ghost use Rattle.std.specs.Prelude.{◌≡◌, ℕ, ◌<◌, List, length, IfOk, IfErr, MatchResult};
 ghost use Rattle.synthesis.specs.Scratch.{scratch_cells_for};
 ghost use Rattle.sheet.specs.Calls.{ByNext};
 ghost use Rattle.sheet.specs.Faults.{fault_of};
@@ -49,7 +49,7 @@ fn answer_next(
 /// The answers to the tasks of a sheet, or the sheet's first fault.
 pub fn answer_sheet(sheet: &[u8]) -> Result<Answers, Fault>
     ensures answered { SheetAnswered sheet.now result }
-    ensures fault { MatchResult result (λ _. Unit {0}) (λ f. OneFault sheet.now f) }
+    ensures fault { IfErr result (λ f. OneFault sheet.now f) }
 {
     reading_steps();
     first_fault_is_the_fault(sheet);

@@ -1,6 +1,6 @@
 -- What is wrong with a text that is no sheet agrees with the reading of it. Assumes nothing.
 --   FaultsExactly bytes   the reading stops with the fault e behind the tasks ts exactly where e is what is wrong with the bytes, which is one fault, and
---                         never in a sheet; and no two lists of tasks have the same sheet
+--                         never in a sheet
 use Rattle.std.specs.Prelude.{◌≡◌, ℕ, List}
 use Rattle.faults.specs.Faulty.{Faulty}
 use Rattle.sheet.specs.Form.{Entry, HasForm}
@@ -8,7 +8,6 @@ use Rattle.sheet.specs.Lines.{stopped, reading}
 use Rattle.sheet.specs.declared.fault.SheetFault.{SheetFault}
 
 pub record FaultsExactly (bytes : List ℕ) : Type 0 where
-  pub only : (ts us : List Entry) → HasForm bytes ts → HasForm bytes us → ts ≡ us
   pub faulty : (ts : List Entry) (e : SheetFault) → reading bytes ≡ stopped ts e → Faulty bytes ts e
   pub first : (ts : List Entry) (e : SheetFault) → Faulty bytes ts e → reading bytes ≡ stopped ts e
   pub one_fault : (ts us : List Entry) (d e : SheetFault) → Faulty bytes ts d → Faulty bytes us e → d ≡ e

@@ -8,11 +8,11 @@ use Rattle.std.proofs.lemmas.Bool.{cases_lt}
 use Rattle.bit_polynomials.specs.Polynomials.{double, times}
 
 module _ (k m : ℕ) where
-  double_low : (a : ℕ) → 2 * a < 2 ^ k → double k m a ≡ 2 * a
+  pub double_low : (a : ℕ) → 2 * a < 2 ^ k → double k m a ≡ 2 * a
   unfolding double
   double_low a h = ap (λ z. bit_xor (2 * a) (z % 2 * m)) (div-eq_of_lt h) ∙ ap (bit_xor (2 * a)) (zero-mul m) ∙ xor_zero_r (2 * a)
 
-  double_high : (a : ℕ) → 2 ^ k ≤ 2 * a → a < 2 ^ k → double k m a ≡ bit_xor (2 * a) m
+  pub double_high : (a : ℕ) → 2 ^ k ≤ 2 * a → a < 2 ^ k → double k m a ≡ bit_xor (2 * a) m
   unfolding double
   double_high a h l =
       let one : 2 * a / 2 ^ k ≡ 1 = div-eq_of_lt-le (2 ^ k) (omega arith) (omega arith) in
@@ -27,7 +27,7 @@ module _ (k m : ℕ) where
 
 module _ (k m : ℕ) (low : 2 ^ k ≤ m) (high : m < 2 * 2 ^ k) where
   -- the leading bits of both go
-  reduced : (d : ℕ) → 2 ^ k ≤ d → d < 2 * 2 ^ k → bit_xor d m < 2 ^ k
+  pub reduced : (d : ℕ) → 2 ^ k ≤ d → d < 2 * 2 ^ k → bit_xor d m < 2 ^ k
   reduced d h l =
       let split : (x : ℕ) → 2 ^ k ≤ x → 1 * 2 ^ k + (x - 2 ^ k) ≡ x = λ x u. omega arith in
       let e : bit_xor d m ≡ bit_xor (d - 2 ^ k) (m - 2 ^ k) =

@@ -1,6 +1,4 @@
-// The field's operations. An operand of 2 ^ k or more counts as 0.
-ghost use Rattle.std.specs.Prelude.{◌≡◌, ◌<◌, bit_xor};
-ghost use Rattle.field.specs.Meaning.{digit};
+// The field's operations.
 ghost use Rattle.bit_polynomials.specs.Polynomials.{polynomials};
 ghost use Rattle.bit_polynomials.specs.Lawful.{field_laws};
 ghost use Rattle.bit_polynomials.specs.Moduli.{sound};
@@ -8,28 +6,7 @@ ghost use Rattle.bit_polynomials.specs.Moduli.{sound};
 use crate::bit_polynomials::BitPolynomials;
 use field::Field;
 
-impl BitPolynomials {
-    fn digit(&self, a: u16) -> u16
-        ensures is { result ≡ digit (polynomials self.now.degree self.now.modulus) a }
-        ensures within { result < self.now.order }
-    {
-        if a < self.order { a } else { 0 }
-    }
-
-    fn sum(&self, a: u16, b: u16) -> u16
-        ensures { result ≡ bit_xor (digit (polynomials self.now.degree self.now.modulus) a) (digit (polynomials self.now.degree self.now.modulus) b) }
-    {
-        self.digit(a) ^ self.digit(b)
-    }
-
-    fn negative(&self, x: u16) -> u16
-        ensures is { result ≡ digit (polynomials self.now.degree self.now.modulus) x }
-        ensures within { result < self.now.order }
-    {
-        self.digit(x)
-    }
-}
-
+#[tactic(auto, unfolding(field::specs::Meaning::add, field::specs::Meaning::multiply))]
 impl Field for BitPolynomials {
     ghost means = { λ f. polynomials f.degree f.modulus };
 
@@ -40,11 +17,11 @@ impl Field for BitPolynomials {
     }
 
     fn add(&self, a: u16, b: u16) -> u16 {
-        self.sum(a, b)
+        self.digit(a) ^ self.digit(b)
     }
 
     fn negate(&self, a: u16) -> u16 {
-        self.negative(a)
+        self.digit(a)
     }
 
     fn multiply(&self, a: u16, b: u16) -> u16 {
@@ -52,10 +29,9 @@ impl Field for BitPolynomials {
     }
 
     fn invert(&self, a: u16) -> Option<u16> {
-        let a = self.digit(a);
-        if a == 0 {
-            return None;
+        match self.digit(a) {
+            0 => None,
+            a => Some(self.inverse(a)),
         }
-        Some(self.inverse(a))
     }
 }

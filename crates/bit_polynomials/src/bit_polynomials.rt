@@ -2,7 +2,7 @@
 ghost use Rattle.std.specs.Prelude.{◌≡◌, ◌*◌, ◌^◌, ◌<◌, ◌≤◌, true};
 ghost use Rattle.bit_polynomials.specs.Polynomials.{listed, degree_of, modulus_of};
 
-#[derive(Clone, Copy)]
+#[derive(Clone, Copy, Debug, PartialEq, Eq)]
 pub struct BitPolynomials {
     pub(crate) degree: u16,
     pub(crate) order: u16,

@@ -1,6 +1,4 @@
 // Which fields are made.
-ghost use Rattle.std.specs.Prelude.{◌≡◌, true, false, Ok, Err};
-ghost use Rattle.field.specs.Laws.{FieldLaws};
 ghost use Rattle.field.specs.Making.{Makes};
 ghost use Rattle.bit_polynomials.specs.Polynomials.{listed, field_of};
 ghost use Rattle.bit_polynomials.specs.contracts.arithmetic.BitPolynomialsField.TheImpl.{ghosts as as_field};
@@ -10,10 +8,10 @@ use field::Refusal;
 
 impl BitPolynomials {
     // The field of 4, 16 or 256 digits.
-    pub fn new(size: u32) -> Result<BitPolynomials, Refusal>
+    #[tactic(auto, using(crate::specs::Moduli::listed_laws))]
+    pub fn new(size: u32) -> Result<Self, Refusal>
         ensures { Makes (listed size) (field_of size) as_field.means result }
     {
-        listed_are_lawful(size);
         match size {
             4 => Ok(BitPolynomials {
                 degree: 2,
@@ -34,8 +32,3 @@ impl BitPolynomials {
         }
     }
 }
-
-// For the contract alone.
-fn listed_are_lawful(size: u32)
-    ensures { listed size ≡ true → FieldLaws (field_of size) }
-{}

@@ -52,9 +52,6 @@ module _ (m : Meaning) (laws : RingLaws m) where
       ∙ laws.product_assoc (digit m a) (digit m b) (digit m c) (lt a) (lt b) (lt c)
       ∙ sym (ap (m.product (digit m a)) (digit_same m (b ⊗ c) (mul_lt b c)))
 
-  pub mul_left_comm : (a b c : ℕ) → a ⊗ (b ⊗ c) ≡ b ⊗ (a ⊗ c)
-  mul_left_comm a b c = sym (mul_assoc a b c) ∙ ap (λ x. x ⊗ c) (mul_comm a b) ∙ mul_assoc b a c
-
   pub mul_add : (a b c : ℕ) → a ⊗ (b ⊕ c) ≡ a ⊗ b ⊕ a ⊗ c
   unfolding add multiply
   mul_add a b c =

@@ -1,23 +1,20 @@
 -- The laws leave one negative and one inverse. Assumes nothing.
-use Rattle.std.proofs.Common.{◌≡◌, ℕ, zero, suc, ◌<◌, Bool, true, false, eqb, Some, None, sym, refl, ap, ◌∙◌, ⊎_elim, arith}
-use Rattle.std.proofs.lemmas.Bool.{cond-true, cond-false, cases_Bool, eqb-true, eq-eqb, ne_eqb, cases_order}
+use Rattle.std.proofs.Common.{◌≡◌, ℕ, zero, suc, ◌-◌, ◌<◌, ◌≤◌, Bool, true, false, eqb, Some, None, Option, sym, refl, ap, ◌∙◌, ⊎_elim, arith}
+use Rattle.std.proofs.lemmas.Bool.{cond_both, cond-true, cond-false, cases_Bool, eqb-true, eq-eqb, ne_eqb, cases_order}
+use Rattle.std.specs.Option.{unwrap_or}
 use Rattle.field.specs.Meaning.{Meaning, digit, add, multiply, Negates, Inverts}
 use Rattle.field.specs.Laws.{RingLaws, FieldLaws}
 use Rattle.field.specs.Operations.{the, negative, inverse}
 use Rattle.field.proofs.Digits.{digit_lt, digit_same}
 use Rattle.field.proofs.Totals.{positive, add_comm, add_zero, mul_comm, mul_assoc, mul_one, mul_zero, cancel}
 
-pub the_lt : (q : ℕ) (test : ℕ → Bool) → 0 < q → the q test < q
+the_most : (q : ℕ) (test : ℕ → Bool) → the q test ≤ q - 1
 unfolding the
-the_lt zero test h = absurd (omega arith)
-the_lt (suc zero) test h = ⊎_elim
-    (λ t. let e = cond-true (test 0) 0 (the 0 test) t in omega arith)
-    (λ f. let e = cond-false (test 0) 0 (the 0 test) f in omega arith)
-    (cases_Bool (test 0))
-the_lt (suc (suc q)) test h = ⊎_elim
-    (λ t. let e = cond-true (test (suc q)) (suc q) (the (suc q) test) t in omega arith)
-    (λ f. let e = cond-false (test (suc q)) (suc q) (the (suc q) test) f in let l = the_lt (suc q) test (omega arith) in omega arith)
-    (cases_Bool (test (suc q)))
+the_most zero test = omega arith
+the_most (suc q) test = cond_both (test q) q (the q test) (λ x. x ≤ suc q - 1) (λ _. omega arith) (λ _. omega (arith, the_most q test))
+
+pub the_lt : (q : ℕ) (test : ℕ → Bool) → 0 < q → the q test < q
+the_lt q test h = omega (arith, the_most q test)
 
 pub the_none : (q : ℕ) (test : ℕ → Bool) → ((x : ℕ) → x < q → test x ≡ false) → the q test ≡ 0
 unfolding the
@@ -28,15 +25,12 @@ pub the_is : (q : ℕ) (test : ℕ → Bool) (b : ℕ) → b < q → test b ≡ 
 unfolding the
 the_is zero test b h t only = absurd (omega arith)
 the_is (suc q) test b h t only = ⊎_elim
+    (λ e. cond-true (test q) q (the q test) (ap test (sym e) ∙ t) ∙ sym e)
+    (λ l. ⊎_elim
     (λ p. cond-true (test q) q (the q test) p ∙ only q (omega arith) p)
-    (λ f. cond-false (test q) q (the q test) f ∙ the_is q test b (below f) t (λ x l. only x (omega arith)))
-    (cases_Bool (test q))
-  where
-    same : test q ≡ false → b ≡ q → true ≡ false
-    same f e = sym t ∙ ap test e ∙ f
-
-    below : test q ≡ false → b < q
-    below f = ⊎_elim (λ e. absurd (let x : ◌≡◌ {A = ℕ} 0 1 = let z = same f e in cc in omega arith)) (⊎_elim (λ l. l) (λ l. absurd (omega arith))) (cases_order b q)
+    (λ f. cond-false (test q) q (the q test) f ∙ the_is q test b (omega arith) t (λ x k. only x (omega arith)))
+    (cases_Bool (test q)))
+    (cases_order b q)
 
 module _ (m : Meaning) (laws : RingLaws m) where
   pub negates_is : (a r : ℕ) → Negates m a r → r ≡ negative m a
@@ -83,10 +77,14 @@ module _ (m : Meaning) (laws : FieldLaws m) where
       sym (the_is m.order (λ b. eqb (multiply m a b) 1) r within (eq-eqb (multiply m a r) 1 p)
       (λ x h t. only_inverse a r x within h p (eqb-true (multiply m a x) 1 t)))
 
-  pub inverts_none : (a : ℕ) → Inverts m a None → 0 ≡ inverse m a
+  inverts_none : (a : ℕ) → Inverts m a None → 0 ≡ inverse m a
   unfolding inverse multiply
   inverts_none a e =
       let zero-product : (x : ℕ) → multiply m a x ≡ 0 = λ x.
       ap (λ y. m.product y (digit m x)) (e ∙ sym (digit_same m 0 (positive m laws.ring))) ∙ mul_comm m laws.ring 0 x ∙ mul_zero m laws.ring x
       in
       sym (the_none m.order (λ b. eqb (multiply m a b) 1) (λ x h. ne_eqb (multiply m a x) 1 (λ p. let z = zero-product x in omega arith)))
+
+  pub inverts_is : (a : ℕ) (r : Option ℕ) → Inverts m a r → unwrap_or r 0 ≡ inverse m a
+  inverts_is a (Some r) = inverts_some a r
+  inverts_is a None = inverts_none a

@@ -25,15 +25,9 @@ pub fn divide<F: Field>(field: &F, a: u16, b: u16) -> u16
     field.multiply(a, inverted(field, b))
 }
 
-// −a.
+// −a: the laws leave one negative.
+#[tactic(auto, using(crate::proofs::Unique::negates_is))]
 pub fn negated<F: Field>(field: &F, a: u16) -> u16
-    ensures { F.made field.now → result ≡ negative (F.means field.now) a }
-{
-    only_negative(field, a)
-}
-
-// The laws leave one negative.
-fn only_negative<F: Field>(field: &F, a: u16) -> u16
     ensures { F.made field.now → result ≡ negative (F.means field.now) a }
 {
     field.negate(a)
@@ -43,8 +37,5 @@ fn only_negative<F: Field>(field: &F, a: u16) -> u16
 fn inverted<F: Field>(field: &F, a: u16) -> u16
     ensures { F.made field.now → result ≡ inverse (F.means field.now) a }
 {
-    match field.invert(a) {
-        Some(inverse) => inverse,
-        None => 0,
-    }
+    field.invert(a).unwrap_or(0)
 }

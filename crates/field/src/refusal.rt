@@ -15,6 +15,7 @@ pub enum Refusal {
 }
 
 impl Refusal {
+    // A method and no `From`: a conversion would not say that this is the rules' number.
     pub fn number(self) -> u8
         ensures { result ≡ refusal_number self }
     {

@@ -1,6 +1,6 @@
 // A field by what it means. A digit of a field with q elements is a number below q in a u16.
-ghost use Rattle.std.specs.Prelude.{◌≡◌};
-ghost use Rattle.field.specs.Meaning.{Meaning, add as sum_of, multiply as product_of, Negates, Inverts};
+ghost use Rattle.std.specs.Prelude.{◌≡◌, ◌<◌};
+ghost use Rattle.field.specs.Meaning.{Meaning, digit as counted, add as sum_of, multiply as product_of, Negates, Inverts};
 ghost use Rattle.field.specs.Laws.{FieldLaws};
 
 pub trait Field {
@@ -12,6 +12,14 @@ pub trait Field {
     fn size(&self) -> u32
         ensures { result ≡ (means self.now).order };
 
+    // What an operand counts as.
+    fn digit(&self, a: u16) -> u16
+        ensures is { result ≡ counted (means self.now) a }
+        ensures within { 0 < (means self.now).order → result < (means self.now).order }
+    {
+        if (a as u32) < self.size() { a } else { 0 }
+    }
+
     fn add(&self, a: u16, b: u16) -> u16
         ensures { result ≡ sum_of (means self.now) a b };
 
@@ -21,6 +29,7 @@ pub trait Field {
     fn multiply(&self, a: u16, b: u16) -> u16
         ensures { result ≡ product_of (means self.now) a b };
 
+    // Each kind tests for 0 itself: to share the test, its inverse of a digit other than 0 would have to be a member too.
     fn invert(&self, a: u16) -> Option<u16>
         ensures { made self.now → Inverts (means self.now) a result };
 

@@ -4,7 +4,6 @@
 mod arithmetic;
 mod inverse;
 mod make;
-mod remainders;
 mod residues;
 #[cfg(test)]
 mod tests;

@@ -1,6 +1,5 @@
-// The field's operations. An operand of 256 or more counts as 0.
-ghost use Rattle.std.specs.Prelude.{◌≡◌, ◌<◌, bit_xor};
-ghost use Rattle.field.specs.Meaning.{digit};
+// The field's operations. Sum and negative are those of bit polynomials, one expression each: a trait between to share them
+// would be longer.
 ghost use Rattle.table.specs.Logarithms.{by_logarithms};
 ghost use Rattle.table.specs.Agreeing.{field_laws};
 
@@ -8,6 +7,7 @@ use crate::logarithms::{inverse, product};
 use crate::make::Table;
 use field::Field;
 
+#[tactic(auto, unfolding(field::specs::Meaning::add, field::specs::Meaning::multiply))]
 impl Field for Table {
     ghost means = { λ _. by_logarithms };
 
@@ -18,42 +18,22 @@ impl Field for Table {
     }
 
     fn add(&self, a: u16, b: u16) -> u16 {
-        sum(a, b)
+        self.digit(a) ^ self.digit(b)
     }
 
     fn negate(&self, a: u16) -> u16 {
-        negative(a)
+        self.digit(a)
     }
 
     fn multiply(&self, a: u16, b: u16) -> u16 {
-        product(digit(a), digit(b))
+        product(self.digit(a) as u8, self.digit(b) as u8) as u16
     }
 
+    #[tactic(auto, using(crate::specs::Agreeing::inverse_lt, crate::specs::Agreeing::inverse_product))]
     fn invert(&self, a: u16) -> Option<u16> {
-        let a = digit(a);
-        if a == 0 {
-            return None;
+        match self.digit(a) {
+            0 => None,
+            a => Some(inverse(a as u8) as u16),
         }
-        Some(inverse(a))
     }
-}
-
-fn digit(a: u16) -> u16
-    ensures is { result ≡ digit by_logarithms a }
-    ensures within { result < 256 }
-{
-    if a < 256 { a } else { 0 }
-}
-
-fn sum(a: u16, b: u16) -> u16
-    ensures { result ≡ bit_xor (digit by_logarithms a) (digit by_logarithms b) }
-{
-    digit(a) ^ digit(b)
-}
-
-fn negative(x: u16) -> u16
-    ensures is { result ≡ digit by_logarithms x }
-    ensures within { result < 256 }
-{
-    digit(x)
 }

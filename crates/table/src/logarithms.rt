@@ -1,48 +1,46 @@
 // Products and inverses by look-ups.
-ghost use Rattle.std.specs.Prelude.{◌≡◌, ◌+◌, ◌-◌, ◌<◌};
+ghost use Rattle.std.specs.Prelude.{◌≡◌, ◌-◌, ◌<◌};
 ghost use Rattle.table.specs.Logarithms.{power, logarithm, wrapped, product};
 
 use crate::tables::{logarithms, powers};
 
-pub(crate) fn product(a: u16, b: u16) -> u16
-    requires left { a < 256 }
-    requires right { b < 256 }
+pub(crate) fn product(a: u8, b: u8) -> u8
     ensures { result ≡ product a b }
 {
     if a == 0 || b == 0 {
         return 0;
     }
-    power(wrapped(logarithm(a) + logarithm(b)))
+    power(wrapped(logarithm(a) as u16 + logarithm(b) as u16))
 }
 
-pub(crate) fn inverse(a: u16) -> u16
-    requires positive { 0 < a }
-    requires within { a < 256 }
+pub(crate) fn inverse(a: u8) -> u8
+    requires { 0 < a }
     ensures { result ≡ power (wrapped (255 - logarithm a)) }
 {
-    power(wrapped(255 - logarithm(a)))
+    power(wrapped((255 - logarithm(a)) as u16))
 }
 
-fn power(i: u16) -> u16
+#[tactic(auto, unfolding(crate::specs::Logarithms::power))]
+fn power(i: u8) -> u8
     requires { i < 255 }
     ensures { result ≡ power i }
 {
-    powers()[i as usize] as u16
+    powers()[i as usize]
 }
 
-fn logarithm(a: u16) -> u16
-    requires positive { 0 < a }
-    requires within { a < 256 }
+#[tactic(auto, using(crate::specs::Exponents::logarithm_at))]
+fn logarithm(a: u8) -> u8
+    requires { 0 < a }
     ensures is { result ≡ logarithm a }
     ensures within { result < 255 }
 {
-    logarithms()[a as usize] as u16
+    logarithms()[a as usize]
 }
 
-fn wrapped(i: u16) -> u16
+fn wrapped(i: u16) -> u8
     requires { i < 510 }
     ensures is { result ≡ wrapped i }
     ensures within { result < 255 }
 {
-    if i < 255 { i } else { i - 255 }
+    (if i < 255 { i } else { i - 255 }) as u8
 }

@@ -1,5 +1,5 @@
-// The type, which needs no data, and its making.
-ghost use Rattle.std.specs.Prelude.{◌≡◌, true, false, Ok, Err};
+// The type, which needs no data, and its making. The makings of the three kinds share no trait: each call names its kind, and
+// each kind knows other sizes.
 ghost use Rattle.field.specs.Laws.{FieldLaws};
 ghost use Rattle.field.specs.Making.{Makes};
 ghost use Rattle.bit_polynomials.specs.Polynomials.{field_of};
@@ -9,15 +9,15 @@ ghost use Rattle.table.specs.contracts.arithmetic.TableField.TheImpl.{ghosts as 
 
 use field::Refusal;
 
-#[derive(Clone, Copy)]
+#[derive(Clone, Copy, Debug, PartialEq, Eq)]
 pub struct Table(());
 
 impl Table {
     // The field of 256 digits.
-    pub fn new(size: u32) -> Result<Table, Refusal>
+    #[tactic(auto, using(crate::specs::Agreeing::field_laws))]
+    pub fn new(size: u32) -> Result<Self, Refusal>
         ensures { Makes (listed size) by_logarithms as_field.means result }
     {
-        agrees_with_bit_polynomials();
         if size == 256 {
             Ok(Table(()))
         } else {
@@ -27,6 +27,7 @@ impl Table {
 }
 
 // The table and the bit polynomials of 256 digits are one field.
+#[tactic(auto, using(crate::specs::Agreeing::agreement, crate::specs::Agreeing::field_laws))]
 pub fn agrees_with_bit_polynomials()
     ensures agree { Agree by_logarithms (field_of 256) }
     ensures lawful { FieldLaws by_logarithms }

@@ -1,4 +1,4 @@
-// The two tables.
+// The two tables, constant byte strings: the numbers of an array would be laid out one to a line.
 ghost use Rattle.std.specs.Prelude.{◌≡◌};
 ghost use Rattle.table.specs.Logarithms.{powers, logarithms};
 

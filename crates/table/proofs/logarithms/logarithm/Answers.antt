@@ -1,10 +1,8 @@
-use Rattle.std.proofs.Common.{◌≡◌, get_or, ap, ◌∙◌, arith}
-use Rattle.table.specs.Logarithms.{logarithm}
+use Rattle.std.proofs.Common.{get_or, ap, ◌∙◌, arith}
 use Rattle.table.specs.Exponents.{logarithm_at, logarithm_lt}
 use Rattle.table.proofs.logarithms.logarithm.Goals as goal
 
-pub returns : goal.returns
-returns c =
+pub returns-clause-within : goal.returns-clause-within
+returns-clause-within c =
     let a = c.args.a in
-    let is : get_or c.logarithms.result.now a 0 ≡ logarithm a = ap (λ xs. get_or xs a 0) c.logarithms.ensures ∙ logarithm_at a c.requires.within in
-    record { is = is; within = omega (arith, is, logarithm_lt a c.requires.positive c.requires.within) }
+    omega (arith, ap (λ xs. get_or xs a 0) c.logarithms.ensures ∙ logarithm_at a (omega arith), logarithm_lt a c.requires (omega arith))

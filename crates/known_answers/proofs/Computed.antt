@@ -1,6 +1,6 @@
 -- The known answers, by computing with the definitions.
-use Rattle.std.proofs.Common.{◌≡◌, List, [], ◌∷◌, map, refl}
-use mathlib.Core.List.{head-eq_of_cons-eq, tail-eq_of_cons-eq}
+use Rattle.std.proofs.Common.{◌≡◌, List, map, get_or, sym, refl, ap, ◌∙◌}
+use Rattle.std.proofs.lemmas.List.{get_or-map}
 use Rattle.field.specs.Meaning.{add, multiply}
 use Rattle.field.specs.Operations.{the, negative, inverse}
 use Rattle.register.specs.Rule.{Sum, feedback}
@@ -18,8 +18,8 @@ abbrev derived : KnownAnswer → Answer
 derived a = answer_for a.field a.digits
 
 each : (answers : List KnownAnswer) → map derived answers ≡ map listed answers → AllKnown answers
-each [] same = tt
-each (a ∷ rest) same = (head-eq_of_cons-eq same, each rest (tail-eq_of_cons-eq same))
+each answers same k d h =
+    sym (get_or-map derived answers k d (listed d) h) ∙ ap (λ found. get_or found k (listed d)) same ∙ get_or-map listed answers k d (listed d) h
 
 pub all_known : AllKnown known_answer_list
 unfolding add multiply the negative inverse Sum feedback shifted double times power logarithm step run register_of other_of

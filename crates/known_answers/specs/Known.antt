@@ -8,6 +8,7 @@
 --   known m w l taps n other   an entry of the list: field, digits, and the answer's four parts
 --   known_answer_list          the list
 use Rattle.std.specs.Prelude.{◌≡◌, ℕ, List, [], ◌∷◌, Some, None, Option}
+use Rattle.std.specs.List.{All}
 use Rattle.std.specs.Option.{option_and}
 use Rattle.field.specs.Meaning.{Meaning}
 use Rattle.residues.specs.Modulo.{modulo}
@@ -55,8 +56,7 @@ abbrev pub Known : KnownAnswer → Type 0
 Known a = answer_for a.field a.digits ≡ a.answer
 
 abbrev pub AllKnown : List KnownAnswer → Type 0
-AllKnown [] = Unit {0}
-AllKnown (a ∷ rest) = Known a × AllKnown rest
+AllKnown answers = All Known answers
 
 abbrev pub known : Meaning → List ℕ → ℕ → List ℕ → ℕ → Option (List ℕ) → KnownAnswer
 known m w l taps n other = record {

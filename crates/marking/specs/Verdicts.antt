@@ -1,7 +1,8 @@
 -- The verdicts on a claim. Assumes nothing.
 --   verdict_number v   1 wrong, 2 long, 3 only, 4 several
 --   detail v           the broken place, the excess, or 0
-use Rattle.std.specs.Prelude.{ℕ}
+--   verdict_word_of v  the word for it
+use Rattle.std.specs.Prelude.{ℕ, List, codes}
 use Rattle.marking.specs.declared.verdict.Verdict.{Verdict}
 use Rattle.marking.specs.declared.verdict.Verdict.TheVariants.{Wrong, Long, Only, Several}
 
@@ -16,3 +17,9 @@ detail (Wrong place) = place
 detail (Long excess) = excess
 detail Only = 0
 detail Several = 0
+
+abbrev pub verdict_word_of : Verdict → List ℕ
+verdict_word_of (Wrong place) = codes "wrong"
+verdict_word_of (Long excess) = codes "long"
+verdict_word_of Only = codes "only"
+verdict_word_of Several = codes "several"

@@ -1,5 +1,5 @@
 // The better of two claims.
-ghost use Rattle.std.specs.Prelude.{◌≡◌, length, if◌then◌else◌, Ok, Err};
+ghost use Rattle.std.specs.Prelude.{◌≡◌, length, Ok, Err};
 ghost use Rattle.field.specs.Meaning.{Meaning};
 ghost use Rattle.field.specs.Refusals.{refusal_of};
 ghost use Rattle.synthesis.specs.Scratch.{scratch_cells_for, cleared};
@@ -10,27 +10,23 @@ use crate::verdict::Verdict;
 use field::{Field, Refusal};
 use synthesis::{find_shortest, has_room};
 
-// Whether a claim with this verdict counts before one with the other.
-fn beats(verdict: Verdict, other: Verdict) -> bool
-    ensures { result ≡ beats_of verdict other }
-{
-    match (verdict, other) {
-        (Verdict::Wrong(_), _) => false,
-        (_, Verdict::Wrong(_)) => true,
-        (Verdict::Long(excess), Verdict::Long(more)) => excess < more,
-        (Verdict::Long(_), _) => false,
-        (_, Verdict::Long(_)) => true,
-        _ => false,
+impl Verdict {
+    // Whether a claim with this verdict counts before one with the other. No order: verdicts that differ may tie.
+    fn beats(self, other: Verdict) -> bool
+        ensures { result ≡ beats_of self other }
+    {
+        match (self, other) {
+            (Verdict::Wrong(_), _) => false,
+            (_, Verdict::Wrong(_)) => true,
+            (Verdict::Long(excess), Verdict::Long(more)) => excess < more,
+            (Verdict::Only | Verdict::Several, Verdict::Long(_)) => true,
+            (_, Verdict::Only | Verdict::Several) => false,
+        }
     }
 }
 
-fn choose<'a>(first: &'a [u16], judged: Verdict, second: &'a [u16], other: Verdict) -> &'a [u16]
-    ensures { result.now ≡ (if beats_of other judged then second.now else first.now) }
-{
-    if beats(other, judged) { second } else { first }
-}
-
 /// The taps of the one of two claims on the same digits that counts: the second where its verdict beats the first's.
+#[tactic(auto, using(crate::proofs::Judging::better))]
 pub fn better<'a, F: Field>(
     field: &F,
     digits: &[u16],
@@ -48,7 +44,7 @@ pub fn better<'a, F: Field>(
     }
     let other = test_claim(field, digits, second)?;
     let shortest = find_shortest(field, digits, scratch)?;
-    let judged = judge(field, digits, first, broken, shortest);
-    let rival = judge(field, digits, second, other, shortest);
-    Ok(choose(first, judged, second, rival))
+    let judged = judge(digits, first, broken, shortest);
+    let rival = judge(digits, second, other, shortest);
+    Ok(if rival.beats(judged) { second } else { first })
 }

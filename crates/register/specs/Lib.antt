@@ -3,4 +3,3 @@ pub mod Registers
 pub mod Rule
 pub mod Strings
 pub mod Rows
-pub mod Facts

@@ -1,32 +1,28 @@
 // Registers are built from taps.
-ghost use Rattle.std.specs.Prelude.{◌≡◌, ◌≤◌, [], length, Ok, Err};
+ghost use Rattle.std.specs.Prelude.{◌≡◌, [], length, Ok, Err, IfOk};
 ghost use Rattle.field.specs.Refusals.{refusal_of};
-ghost use Rattle.register.specs.Registers.{taps_in, build_refusal, Padded};
+ghost use Rattle.register.specs.Registers.{taps_in, build_refusal};
 
-use crate::facts::padding_steps;
 use crate::register::{MOST_TAPS, Register};
 use field::Refusal;
 
-// The taps, and 0 in the cells past them.
-fn padded(taps: &[u16]) -> [u16; MOST_TAPS]
-    requires { length taps.now ≤ 256 }
-    ensures { Padded taps.now (length taps.now) result }
-{
-    padding_steps();
-    let mut cells = [0; MOST_TAPS];
-    for (i, tap) in taps.iter().enumerate() {
-        cells[i] = *tap;
-    }
-    cells
-}
+/// The register of these taps and their number.
+#[tactic(auto, using(crate::proofs::Cells::kept_long, crate::proofs::Cells::zero_past))]
+impl TryFrom<&[u16]> for Register {
+    type Error = Refusal;
 
-fn register_of(taps: &[u16]) -> Register
-    requires { length taps.now ≤ 256 }
-    ensures { taps_in result ≡ taps.now }
-{
-    Register {
-        cells: padded(taps),
-        taps: taps.len(),
+    ghost try_from_gives = { λ taps r. (refusal_of r ≡ build_refusal (length taps.now)) × IfOk r (λ built. taps_in built ≡ taps.now) };
+
+    fn try_from(taps: &[u16]) -> Result<Register, Refusal> {
+        if taps.len() > MOST_TAPS {
+            return Err(Refusal::TooManyTaps);
+        }
+        let mut cells = Register::new().cells;
+        cells[..taps.len()].copy_from_slice(taps);
+        Ok(Register {
+            cells,
+            taps: taps.len(),
+        })
     }
 }
 
@@ -35,7 +31,10 @@ impl Register {
     pub fn new() -> Register
         ensures { taps_in result ≡ [] }
     {
-        register_of(&[])
+        Register {
+            cells: [0; MOST_TAPS],
+            taps: 0,
+        }
     }
 
     /// Sets the register to these taps and their number.
@@ -43,10 +42,7 @@ impl Register {
         ensures refused { refusal_of result ≡ build_refusal (length taps.now) }
         ensures built { elim result [ Ok _ ↦ taps_in self.new ≡ taps.now | Err e ↦ self.new ≡ self.old ] }
     {
-        if taps.len() > MOST_TAPS {
-            return Err(Refusal::TooManyTaps);
-        }
-        *self = register_of(taps);
+        *self = Register::try_from(taps)?;
         Ok(())
     }
 
@@ -54,6 +50,6 @@ impl Register {
     pub fn taps(&self) -> &[u16]
         ensures { result.now ≡ taps_in self.now }
     {
-        &self.cells[0..self.taps]
+        &self.cells[..self.taps]
     }
 }

@@ -3,7 +3,6 @@
 
 mod build;
 mod correction;
-mod facts;
 mod regeneration;
 mod register;
 mod rows;

@@ -1,11 +1,10 @@
 -- What is reported of a string, in terms of all the registers that generate it. Assumes nothing.
-use Rattle.std.proofs.Common.{◌≡◌, ℕ, ◌*◌, ◌<◌, ◌≤◌, cond, List, length, take, drop, Some, None, Ok, Err, Option, Result, sym, ap, ◌∙◌, subst, arith, le-leb}
+use Rattle.std.proofs.Common.{◌≡◌, ℕ, ◌*◌, ◌<◌, ◌≤◌, cond, List, length, take, drop, Some, None, Option, sym, ap, ◌∙◌, subst, arith, le-leb}
 use native.Mathlib.Decide.{dec_le}
 use borrow.Author.Tests.{lt-leb}
 use Rattle.std.proofs.lemmas.List.{take_at, drop_at}
 use Rattle.field.specs.Laws.{FieldLaws}
 use Rattle.field.specs.Meaning.{Meaning}
-use Rattle.field.specs.declared.refusal.Refusal.{Refusal}
 use Rattle.register.specs.Strings.{Digits}
 use Rattle.massey.specs.Steps.{State as Steps, steps}
 use Rattle.massey.specs.Theorems.{register_of, other_of, CountWithin, IsOther}
@@ -15,11 +14,11 @@ use Rattle.massey.proofs.Shortest.{another_shortest}
 use Rattle.massey.proofs.Strings.{shortest, other}
 use Rattle.synthesis.specs.Answers.{other_answer, OtherWritten, Promised, Rival}
 use Rattle.synthesis.specs.Kept.{kept}
-use Rattle.synthesis.specs.Runs.{Reported, OtherFound, Found, ReportedOr, FoundOr}
-use Rattle.synthesis.specs.Sound.{Sound, overwritten}
+use Rattle.synthesis.specs.Runs.{Reported, OtherFound, Found}
+use Rattle.synthesis.specs.Sound.{Tracked, overwritten}
 use Rattle.synthesis.specs.declared.report.Report.{Report}
 use Rattle.synthesis.specs.declared.state.State.{State}
-use Rattle.synthesis.proofs.Soundness.{sound_laws, sound_digits, length_is, shift_is}
+use Rattle.synthesis.proofs.Soundness.{length_is, shift_is}
 
 -- the front and the rest of cells that were written
 overwritten_front : (taps cells cells' : List ℕ) (n : ℕ) → length taps ≡ n → cells' ≡ overwritten taps cells → take n cells' ≡ taps
@@ -100,21 +99,11 @@ module _ (m : Meaning) (laws : FieldLaws m) (w : List ℕ) (dw : Digits m w) whe
           (other_found others others' t.other r.answer r.other (dec_le (2 * S.l) (length w)));
     }
 
-module _ (m : Meaning) (st : State) (x : Sound m st) where
+module _ (m : Meaning) (laws : FieldLaws m) (st : State) (x : Tracked m st) where
   pub sound_promised : Promised m (kept st) (register_of (steps m (kept st))) (steps m (kept st)).count
-  sound_promised = promised m (sound_laws m st x) (kept st) (sound_digits m st x)
+  sound_promised = promised m laws (kept st) x.digits
 
   pub sound_rival : st.progress.taken < 2 * st.progress.length → Rival m (kept st) (register_of (steps m (kept st))) st.progress.shift (other_of m (steps m (kept st)))
   sound_rival h =
       subst (λ j. Rival m (kept st) (register_of (steps m (kept st))) j (other_of m (steps m (kept st)))) (sym (shift_is m st x))
-      (rival m laws (kept st) digits (other m laws (kept st) digits (omega (arith, st.long, length_is m st x))))
-    where
-      laws : FieldLaws m
-      laws = sound_laws m st x
-
-      digits : Digits m (kept st)
-      digits = sound_digits m st x
-
-  pub sound_found : (cells cells' others others' : List ℕ) (r : Result Report Refusal) → ReportedOr m (kept st) cells cells' others others' r → FoundOr m (kept st) cells cells' others others' r
-  sound_found cells cells' others others' (Ok t) h = found m (sound_laws m st x) (kept st) (sound_digits m st x) t cells cells' others others' h
-  sound_found cells cells' others others' (Err e) h = h
+      (rival m laws (kept st) x.digits (other m laws (kept st) x.digits (omega (arith, st.long, length_is m st x))))

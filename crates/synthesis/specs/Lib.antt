@@ -1,7 +1,9 @@
 pub mod Cells
+pub mod Held
 pub mod Scratch
 pub mod Kept
 pub mod Sound
 pub mod Joins
 pub mod Answers
+pub mod Known
 pub mod Runs

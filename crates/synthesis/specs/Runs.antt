@@ -5,9 +5,9 @@
 --   Reported ..              what is reported of w, by the steps over it
 --   OtherFound ..            there is a rival, which stands in the first cells, or there is none and no cell has changed
 --   Found ..                 the promise: what is reported of w, in terms of all the registers that generate it
---   ReportedOr, FoundOr ..   that of a run that was not refused, and of one that was, that it changed no cell
---   CallSteps calls          the digits kept, call by call
-use Rattle.std.specs.Prelude.{◌≡◌, ℕ, ◌+◌, ◌*◌, ◌<◌, ◌≤◌, cond, List, [], ◌∷◌, length, take, drop, Some, None, Ok, Err, Option, Result, nat_lt, slice_index_or}
+--   FoundOr ..               the same of a run that was not refused, and of one that was, that it changed no cell
+use Rattle.std.specs.Prelude.{◌≡◌, ℕ, ◌*◌, ◌<◌, ◌≤◌, cond, List, length, take, drop, Some, None, Ok, Err, Option, Result, nat_lt}
+use Rattle.std.specs.List.{fold}
 use Rattle.field.specs.Meaning.{Meaning}
 use Rattle.field.specs.declared.refusal.Refusal.{Refusal}
 use Rattle.field.specs.declared.refusal.Refusal.TheVariants.{TooFewCells}
@@ -27,9 +27,8 @@ called q w Show = w
 called q w Other = w
 called q w (Trim t) = trimmed w t
 
-unfoldable pub performed : ℕ → List ℕ → List Call → List ℕ
-performed q w [] = w
-performed q w (c ∷ cs) = performed q (called q w c) cs
+abbrev pub performed : ℕ → List ℕ → List Call → List ℕ
+performed q w calls = fold (called q) w calls
 
 abbrev pub run_refusal : Meaning → List ℕ → ℕ → ℕ → Option Refusal
 run_refusal m w cells others = cond (nat_lt others (other_taps_of m w)) (Some TooFewCells) (room_refusal (steps m w).l cells)
@@ -55,15 +54,6 @@ pub record Found (m : Meaning) (w : List ℕ) (t : Report) (cells cells' others 
   pub other : OtherFound m w (take t.shown.length cells') others others' t.other
 
 -- a refusal leaves the cells as they were
-abbrev pub ReportedOr : Meaning → List ℕ → List ℕ → List ℕ → List ℕ → List ℕ → Result Report Refusal → Type 0
-ReportedOr m w cells cells' others others' (Ok t) = Reported m w t cells cells' others others'
-ReportedOr m w cells cells' others others' (Err e) = (cells' ≡ cells) × (others' ≡ others)
-
 abbrev pub FoundOr : Meaning → List ℕ → List ℕ → List ℕ → List ℕ → List ℕ → Result Report Refusal → Type 0
 FoundOr m w cells cells' others others' (Ok t) = Found m w t cells cells' others others'
 FoundOr m w cells cells' others others' (Err e) = (cells' ≡ cells) × (others' ≡ others)
-
-pub record CallSteps (calls : List Call) : Type 0 where
-  pub none : (q : ℕ) (w : List ℕ) → performed q w (take 0 calls) ≡ w
-  pub more : (q : ℕ) (w : List ℕ) (i : ℕ) → i < length calls → performed q w (take (i + 1) calls) ≡ called q (performed q w (take i calls)) (slice_index_or calls i (Feed 0))
-  pub all : (q : ℕ) (w : List ℕ) (i : ℕ) → length calls ≤ i → performed q w (take i calls) ≡ performed q w calls

@@ -1,29 +1,27 @@
 // The analyser and its calls.
-ghost use Rattle.std.specs.Prelude.{◌≡◌, [], length, Some, None, Ok, Err};
+ghost use Rattle.std.specs.Prelude.{◌≡◌, ◌<◌, ◌≤◌, [], ◌∷◌, ◌++◌, length, take, IfOk, OnErr, IfSome, IfNone, MatchResult};
 ghost use Rattle.field.specs.Meaning.{Meaning};
 ghost use Rattle.field.specs.Refusals.{refusal_of};
 ghost use Rattle.massey.specs.Steps.{steps};
 ghost use Rattle.massey.specs.Theorems.{register_of, other_of, expected as expected_after, Expected};
 ghost use Rattle.synthesis.specs.Answers.{ShownOf, other_taps_of, other_answer, OtherWritten, Promised, Rival};
 ghost use Rattle.synthesis.specs.Kept.{kept, fed, feed_refusal, trimmed, trim_refusal, room_refusal};
-ghost use Rattle.synthesis.specs.Sound.{Sound, leaves, overwritten};
+ghost use Rattle.synthesis.specs.Known.{Known};
+ghost use Rattle.synthesis.specs.Sound.{Tracked, leaves, overwritten};
 
-use crate::begin::empty;
-use crate::expecting::next_digit;
-use crate::feeding::push;
-use crate::other::write_other;
 use crate::progress::MOST_DIGITS;
-use crate::showing::{progress_counts, write_register};
+use crate::rows::Rows;
 use crate::shown::Shown;
-use crate::state::State;
-use crate::trimming::cut;
+use crate::state::{ROW_CELLS, State};
 use field::{Field, Refusal, is_digit};
 
 /// Reads digits over a field one by one, and has the shortest register for those that it keeps.
+// That a call leaves the field as it is stands at each: no type can say it of what is lent for writing.
 #[derive(Drop)]
-pub struct Analyser<F> {
+pub struct Analyser<F: Field> {
     field: F,
     state: State,
+    pub ghost tracked: { F.made field → Tracked (F.means field) state },
 }
 
 impl<F: Field> Analyser<F> {
@@ -31,11 +29,10 @@ impl<F: Field> Analyser<F> {
     pub fn new(field: F) -> Analyser<F>
         ensures field { result.field ≡ field }
         ensures kept { kept result.state ≡ [] }
-        ensures sound { F.made field → Sound (F.means field) result.state }
     {
         Analyser {
             field,
-            state: empty(),
+            state: State::empty(),
         }
     }
 
@@ -44,9 +41,8 @@ impl<F: Field> Analyser<F> {
         ensures refused { refusal_of result ≡ feed_refusal (F.means self.old.field).order (kept self.old.state) s }
         ensures field { self.new.field ≡ self.old.field }
         ensures kept { kept self.new.state ≡ fed (F.means self.old.field).order (kept self.old.state) s }
-        ensures same { elim result [ Ok p ↦ Unit {0} | Err e ↦ self.new ≡ self.old ] }
-        ensures sound { F.made self.old.field → Sound (F.means self.old.field) self.old.state → Sound (F.means self.old.field) self.new.state }
-        ensures pair { F.made self.old.field → Sound (F.means self.old.field) self.old.state → elim result [ Ok p ↦ (p.0 ≡ leaves (F.means self.old.field) (kept self.old.state) s) × (p.1 ≡ (steps (F.means self.old.field) (kept self.new.state)).l) | Err e ↦ Unit {0} ] }
+        ensures same { OnErr result (self.new ≡ self.old) }
+        ensures pair { F.made self.old.field → IfOk result (λ p. (p.0 ≡ leaves (F.means self.old.field) (kept self.old.state) s) × (p.1 ≡ (steps (F.means self.old.field) (kept self.new.state)).l)) }
     {
         if self.state.progress.taken >= MOST_DIGITS {
             return Err(Refusal::TooManyDigits);
@@ -54,30 +50,51 @@ impl<F: Field> Analyser<F> {
         if !is_digit(&self.field, s) {
             return Err(Refusal::NotADigit);
         }
-        let discrepancy = push(&self.field, &mut self.state, s);
+        let discrepancy = self.push(s);
         Ok((discrepancy, self.state.progress.length as u16))
+    }
+
+    // Takes the digit s, and answers the discrepancy there. Apart from `feed`, so that what `feed` tests is proved by itself.
+    fn push(&mut self, s: u16) -> u16
+        requires room { self.old.state.progress.taken < 256 }
+        requires digit { s < (F.means self.old.field).order }
+        ensures field { self.new.field ≡ self.old.field }
+        ensures kept { kept self.new.state ≡ kept self.old.state ++ s ∷ [] }
+        ensures discrepancy { F.made self.old.field → result ≡ leaves (F.means self.old.field) (kept self.old.state) s }
+        ensures length { F.made self.old.field → self.new.state.progress.length ≡ (steps (F.means self.old.field) (kept self.new.state)).l }
+    {
+        let state = &mut self.state;
+        state.digits[state.progress.taken] = s;
+        let mut spare = [0; ROW_CELLS];
+        let mut rows = Rows {
+            c: &mut state.c,
+            b: &mut state.b,
+            spare: &mut spare,
+        };
+        rows.step(&self.field, &state.digits, &mut state.progress)
     }
 
     /// The one digit that the register gives next: fed, it would leave no discrepancy.
     pub fn expect(&self) -> u16
-        ensures value { Sound (F.means self.now.field) self.now.state → result ≡ expected_after (F.means self.now.field) (kept self.now.state) }
-        ensures expected { Sound (F.means self.now.field) self.now.state → Expected (F.means self.now.field) (kept self.now.state) result }
+        ensures value { F.made self.now.field → result ≡ expected_after (F.means self.now.field) (kept self.now.state) }
+        ensures expected { F.made self.now.field → Expected (F.means self.now.field) (kept self.now.state) result }
     {
-        next_digit(&self.field, &self.state)
+        self.steps_known();
+        self.field.negate(self.state.feedback(&self.field))
     }
 
     /// Writes the taps of the register into the first cells.
     pub fn show(&self, cells: &mut [u16]) -> Result<Shown, Refusal>
-        ensures refused { Sound (F.means self.now.field) self.now.state → refusal_of result ≡ room_refusal (steps (F.means self.now.field) (kept self.now.state)).l (length cells.old) }
-        ensures same { elim result [ Ok t ↦ Unit {0} | Err e ↦ cells.new ≡ cells.old ] }
-        ensures shown { Sound (F.means self.now.field) self.now.state → elim result [ Ok t ↦ ShownOf (F.means self.now.field) (kept self.now.state) t × (cells.new ≡ overwritten (register_of (steps (F.means self.now.field) (kept self.now.state))) cells.old) | Err e ↦ Unit {0} ] }
-        ensures promised { Sound (F.means self.now.field) self.now.state → Promised (F.means self.now.field) (kept self.now.state) (register_of (steps (F.means self.now.field) (kept self.now.state))) (steps (F.means self.now.field) (kept self.now.state)).count }
+        ensures refused { F.made self.now.field → refusal_of result ≡ room_refusal (steps (F.means self.now.field) (kept self.now.state)).l (length cells.old) }
+        ensures same { OnErr result (cells.new ≡ cells.old) }
+        ensures shown { F.made self.now.field → IfOk result (λ t. ShownOf (F.means self.now.field) (kept self.now.state) t × (cells.new ≡ overwritten (register_of (steps (F.means self.now.field) (kept self.now.state))) cells.old)) }
+        ensures promised { F.made self.now.field → Promised (F.means self.now.field) (kept self.now.state) (register_of (steps (F.means self.now.field) (kept self.now.state))) (steps (F.means self.now.field) (kept self.now.state)).count }
     {
-        progress_counts(&self.state);
+        self.steps_known();
         if cells.len() < self.state.progress.length {
             return Err(Refusal::TooFewCells);
         }
-        write_register(&self.state, cells);
+        self.state.write_taps(cells);
         Ok(Shown {
             length: self.state.progress.length,
             digits: self.state.progress.taken,
@@ -87,45 +104,57 @@ impl<F: Field> Analyser<F> {
 
     /// Writes the taps of another register of the same length, if there is one, and answers the first that differs.
     pub fn other(&self, cells: &mut [u16]) -> Result<Option<usize>, Refusal>
-        ensures refused { Sound (F.means self.now.field) self.now.state → refusal_of result ≡ room_refusal (other_taps_of (F.means self.now.field) (kept self.now.state)) (length cells.old) }
-        ensures same { elim result [ Ok o ↦ elim o [ Some j ↦ Unit {0} | None ↦ cells.new ≡ cells.old ] | Err e ↦ cells.new ≡ cells.old ] }
-        ensures other { Sound (F.means self.now.field) self.now.state → elim result [ Ok o ↦ (o ≡ other_answer (F.means self.now.field) (kept self.now.state)) × OtherWritten (F.means self.now.field) (kept self.now.state) cells.old cells.new o | Err e ↦ Unit {0} ] }
-        ensures rival { Sound (F.means self.now.field) self.now.state → elim result [ Ok o ↦ elim o [ Some j ↦ Rival (F.means self.now.field) (kept self.now.state) (register_of (steps (F.means self.now.field) (kept self.now.state))) j (other_of (F.means self.now.field) (steps (F.means self.now.field) (kept self.now.state))) | None ↦ Unit {0} ] | Err e ↦ Unit {0} ] }
+        ensures refused { F.made self.now.field → refusal_of result ≡ room_refusal (other_taps_of (F.means self.now.field) (kept self.now.state)) (length cells.old) }
+        ensures same { MatchResult result (λ o. IfNone o (cells.new ≡ cells.old)) (λ _. cells.new ≡ cells.old) }
+        ensures other { F.made self.now.field → IfOk result (λ o. (o ≡ other_answer (F.means self.now.field) (kept self.now.state)) × OtherWritten (F.means self.now.field) (kept self.now.state) cells.old cells.new o) }
+        ensures rival { F.made self.now.field → IfOk result (λ o. IfSome o (λ j. Rival (F.means self.now.field) (kept self.now.state) (register_of (steps (F.means self.now.field) (kept self.now.state))) j (other_of (F.means self.now.field) (steps (F.means self.now.field) (kept self.now.state))))) }
     {
-        progress_counts(&self.state);
-        if 2 * self.state.progress.length <= self.state.progress.taken {
+        self.steps_known();
+        if self.state.is_only() {
             return Ok(None);
         }
-        if self.state.progress.length > cells.len() {
+        if cells.len() < self.state.progress.length {
             return Err(Refusal::TooFewCells);
         }
-        write_other(&self.field, &self.state, cells);
+        self.state.write_joined(&self.field, cells);
         Ok(Some(self.state.progress.shift))
     }
 
     // How many cells `other` writes.
     pub(crate) fn other_taps(&self) -> usize
-        ensures { Sound (F.means self.now.field) self.now.state → result ≡ other_taps_of (F.means self.now.field) (kept self.now.state) }
+        ensures { F.made self.now.field → result ≡ other_taps_of (F.means self.now.field) (kept self.now.state) }
     {
-        progress_counts(&self.state);
-        if self.state.progress.taken < 2 * self.state.progress.length {
-            return self.state.progress.length;
+        self.steps_known();
+        if self.state.is_only() {
+            0
+        } else {
+            self.state.progress.length
         }
-        0
     }
 
-    /// Keeps the first t digits alone.
+    // A caller knows from the call on what the cells say of the steps over the digits kept, and what holds of these.
+    fn steps_known(&self)
+        ensures { F.made self.now.field → Known (F.means self.now.field) self.now.state }
+    {}
+
+    /// Keeps the first t digits alone: runs the steps again over these.
     pub fn trim(&mut self, t: usize) -> Result<(), Refusal>
         ensures refused { refusal_of result ≡ trim_refusal (kept self.old.state) t }
         ensures field { self.new.field ≡ self.old.field }
         ensures kept { kept self.new.state ≡ trimmed (kept self.old.state) t }
-        ensures same { elim result [ Ok o ↦ Unit {0} | Err e ↦ self.new ≡ self.old ] }
-        ensures sound { F.made self.old.field → Sound (F.means self.old.field) self.old.state → Sound (F.means self.old.field) self.new.state }
+        ensures same { OnErr result (self.new ≡ self.old) }
     {
         if t > self.state.progress.taken {
             return Err(Refusal::PastTheDigits);
         }
-        cut(&self.field, &mut self.state, t);
+        let state = &mut self.state;
+        let mut spare = [0; ROW_CELLS];
+        let mut rows = Rows {
+            c: &mut state.c,
+            b: &mut state.b,
+            spare: &mut spare,
+        };
+        state.progress = rows.run(&self.field, &state.digits[..t]);
         Ok(())
     }
 }

@@ -6,12 +6,13 @@ ghost use Rattle.synthesis.specs.Scratch.{scratch_cells_for, cleared, steps_refu
 ghost use Rattle.massey.specs.Steps.{steps};
 
 use crate::progress::MOST_DIGITS;
-use crate::run::{clear, run};
+use crate::rows::Rows;
+use crate::run::clear;
 use field::{Field, Refusal};
 use register::are_digits;
 
 /// The length of a shortest register, and the count of the steps that find it.
-#[derive(Clone, Copy, Debug, PartialEq)]
+#[derive(Clone, Copy, Debug, PartialEq, Eq)]
 pub struct Shortest {
     pub length: usize,
     pub count: u32,
@@ -33,34 +34,24 @@ pub fn has_room(digits: usize, cells: usize) -> bool
     digits < cells / 3
 }
 
-fn find_in<F: Field>(field: &F, digits: &[u16], rows: &mut [u16]) -> Shortest
+// Runs the steps in the first cells of the scratch, which end as 0.
+fn find_in<F: Field>(field: &F, digits: &[u16], scratch: &mut [u16]) -> Shortest
     requires few { length digits.now ≤ 256 }
-    requires room { length rows.old ≡ scratch_cells_for (length digits.now) }
+    requires room { scratch_cells_for (length digits.now) ≤ length scratch.old }
     ensures length { F.made field.now → result.length ≡ (steps (F.means field.now) digits.now).l }
     ensures count { F.made field.now → result.count ≡ (steps (F.means field.now) digits.now).count }
+    ensures scratch { scratch.new ≡ cleared (scratch_cells_for (length digits.now)) scratch.old }
 {
+    let rows = &mut scratch[0..scratch_cells(digits.len())];
     let row = digits.len() + 1;
     let (c, rest) = rows.split_at_mut(row);
-    let (b, t) = rest.split_at_mut(row);
-    let p = run(field, digits, c, b, t);
+    let (b, spare) = rest.split_at_mut(row);
+    let p = Rows { c, b, spare }.run(field, digits);
+    clear(rows);
     Shortest {
         length: p.length,
         count: p.count,
     }
-}
-
-// The same in the first cells of the scratch, which end as 0.
-fn find_in_front<F: Field>(field: &F, digits: &[u16], scratch: &mut [u16], cells: usize) -> Shortest
-    requires few { length digits.now ≤ 256 }
-    requires need { cells ≡ scratch_cells_for (length digits.now) }
-    requires room { cells ≤ length scratch.old }
-    ensures length { F.made field.now → result.length ≡ (steps (F.means field.now) digits.now).l }
-    ensures count { F.made field.now → result.count ≡ (steps (F.means field.now) digits.now).count }
-    ensures scratch { scratch.new ≡ cleared cells scratch.old }
-{
-    let found = find_in(field, digits, &mut scratch[0..cells]);
-    clear(&mut scratch[0..cells]);
-    found
 }
 
 /// Runs the steps over the digits, with their rows in the scratch, of which the cells used end as 0.
@@ -82,6 +73,5 @@ pub fn find_shortest<F: Field>(
     if !has_room(digits.len(), scratch.len()) {
         return Err(Refusal::TooFewCells);
     }
-    let cells = scratch_cells(digits.len());
-    Ok(find_in_front(field, digits, scratch, cells))
+    Ok(find_in(field, digits, scratch))
 }

@@ -2,22 +2,18 @@
 #![tactic(auto)]
 
 mod analyser;
-mod begin;
 mod call;
 mod default_field;
-mod expecting;
-mod feeding;
 mod find;
 mod other;
 mod progress;
 mod report;
+mod rows;
 mod run;
 mod runs;
-mod showing;
 mod shown;
 mod state;
 mod step;
-mod trimming;
 
 pub use analyser::Analyser;
 pub use call::Call;

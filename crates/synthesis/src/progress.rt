@@ -1,5 +1,5 @@
 // How far the steps have come.
-ghost use Rattle.std.specs.Prelude.{◌+◌, ◌*◌, ◌≤◌};
+ghost use Rattle.std.specs.Prelude.{◌≡◌, ◌+◌, ◌*◌, ◌≤◌};
 
 /// The most digits that the steps take.
 pub const MOST_DIGITS: usize = 256;
@@ -17,4 +17,23 @@ pub struct Progress {
     ghost short: { length ≤ taken },
     ghost near: { shift ≤ taken + 1 },
     ghost cheap: { count ≤ 1024 * taken },
+}
+
+impl Progress {
+    /// That of no digits.
+    pub fn new() -> Progress
+        ensures length { result.length ≡ 0 }
+        ensures last { result.last ≡ 1 }
+        ensures shift { result.shift ≡ 1 }
+        ensures taken { result.taken ≡ 0 }
+        ensures count { result.count ≡ 0 }
+    {
+        Progress {
+            length: 0,
+            last: 1,
+            shift: 1,
+            taken: 0,
+            count: 0,
+        }
+    }
 }

@@ -1,69 +1,29 @@
--- How many lines a text closes, and what stands where in a line.
-use Rattle.std.proofs.Common.{◌≡◌, ℕ, ◌+◌, true, eqb, List, [], ◌∷◌, ◌++◌, length, sym, refl, ap, ◌∙◌, subst, append_assoc, append-nil, arith, length-append}
-use Rattle.std.proofs.lemmas.Bool.{cond-true, cond-false, cond_both, eqb-false}
-use Rattle.faults.specs.Begins.{closed, place_behind}
+-- What stands where in a line.
+use Rattle.std.proofs.Common.{◌≡◌, ℕ, ◌+◌, true, List, [], ◌∷◌, ◌++◌, length, sym, refl, ap, ◌∙◌, subst, append_assoc, append-nil, arith, length-append}
+use Rattle.std.proofs.lemmas.Bool.{eqb-false}
+use Rattle.sheet.specs.Begins.{closed, place_behind}
 use Rattle.faults.specs.Faulty.{no_name, unknown_name, second_name, at_word, too_few, Breaks}
+use Rattle.sheet.proofs.Beginnings.{closed_append, closed_none}
 use Rattle.sheet.proofs.Joins.{lacks_head, lacks_more, lacks_append}
 use Rattle.sheet.proofs.Known.{keyword_is}
 use Rattle.sheet.specs.Form.{behind}
 use Rattle.sheet.specs.Names.{keyword, field_name_of}
 use Rattle.sheet.specs.Reading.{spot}
-use Rattle.sheet.specs.Split.{prepend, split, AllLack, lacks}
+use Rattle.sheet.specs.Split.{lacks}
 use Rattle.sheet.specs.declared.fault.At.{At}
 use Rattle.sheet.specs.declared.fault.SheetFault.{SheetFault}
 use Rattle.sheet.specs.declared.names.Keyword.{Keyword}
 use Rattle.sheet.specs.declared.names.Keyword.TheVariants.{Field, Digits, Claim, Tail}
 
-pub closed_append : (xs ys : List ℕ) → closed (xs ++ ys) ≡ closed xs + closed ys
-closed_append [] ys = omega arith
-closed_append (b ∷ xs) ys =
-    cond_both (eqb b 10) (1 + closed (xs ++ ys)) (closed (xs ++ ys)) (λ n. n ≡ closed (b ∷ xs) + closed ys)
-    (λ t. let is = cond-true (eqb b 10) (1 + closed xs) (closed xs) t in let more = closed_append xs ys in omega arith)
-    (λ f. let is = cond-false (eqb b 10) (1 + closed xs) (closed xs) f in let more = closed_append xs ys in omega arith)
-
-closed_none : (xs : List ℕ) → lacks 10 xs ≡ true → closed xs ≡ 0
-closed_none [] h = refl
-closed_none (b ∷ xs) h = let p = lacks_head 10 b xs h in cond-false (eqb b 10) (1 + closed xs) (closed xs) p.0 ∙ closed_none xs p.1
-
--- a place on a line, and that of the next line
-pub place_in : (before text : List ℕ) → lacks 10 text ≡ true → place_behind (before ++ text) ≡ spot (closed before + 1) (length before + length text)
-place_in before text h =
-    ap (λ n. spot (n + 1) (length (before ++ text))) (closed_append before text ∙ let none = closed_none text h in omega arith)
-    ∙ ap (spot (closed before + 1)) (length-append before text)
-
-pub closed_line : (before s : List ℕ) → lacks 10 s ≡ true → closed (before ++ (s ++ 10 ∷ [])) ≡ closed before + 1
-closed_line before s h =
-    let whole = closed_append before (s ++ 10 ∷ []) in
-    let line = closed_append s (10 ∷ []) in
-    let none = closed_none s h in
-    omega arith
-
-pub length_line : (before s : List ℕ) → length (before ++ (s ++ 10 ∷ [])) ≡ length before + length s + 1
-length_line before s = simp length-append (omega arith)
-
 pub lacks_front : (stop : ℕ) (xs ys : List ℕ) → lacks stop (xs ++ ys) ≡ true → lacks stop xs ≡ true
 lacks_front stop [] ys h = refl
 lacks_front stop (b ∷ xs) ys h = let p = lacks_head stop b (xs ++ ys) h in lacks_more stop b xs (eqb-false _ _ p.0) (lacks_front stop xs ys p.1)
 
--- the pieces of a text lack what it lacks, and what parts them
-prepend_lack : (s b : ℕ) (ps : List (List ℕ)) → (b ≡ s → ⊥) → AllLack s ps → AllLack s (prepend b ps)
-prepend_lack s b [] ne h = (lacks_more s b [] ne refl, tt)
-prepend_lack s b (w ∷ ws) ne h = (lacks_more s b w ne h.0, h.1)
-
-pub split_lack : (stop : ℕ) (xs : List ℕ) → AllLack stop (split stop xs)
-split_lack stop [] = (refl, tt)
-split_lack stop (b ∷ xs) =
-    cond_both (eqb b stop) ([] ∷ split stop xs) (prepend b (split stop xs)) (AllLack stop)
-    (λ t. (refl, split_lack stop xs))
-    (λ f. prepend_lack stop b (split stop xs) (eqb-false _ _ f) (split_lack stop xs))
-
-pub split_lack_too : (s stop : ℕ) (xs : List ℕ) → lacks s xs ≡ true → AllLack s (split stop xs)
-split_lack_too s stop [] h = (refl, tt)
-split_lack_too s stop (b ∷ xs) h =
-    let p = lacks_head s b xs h in
-    cond_both (eqb b stop) ([] ∷ split stop xs) (prepend b (split stop xs)) (AllLack s)
-    (λ t. (refl, split_lack_too s stop xs p.1))
-    (λ f. prepend_lack s b (split stop xs) (eqb-false _ _ p.0) (split_lack_too s stop xs p.1))
+-- a place on a line
+pub place_in : (before text : List ℕ) → lacks 10 text ≡ true → place_behind (before ++ text) ≡ spot (closed before + 1) (length before + length text)
+place_in before text h =
+    ap (λ n. spot (n + 1) (length (before ++ text))) (closed_append before text ∙ let none = closed_none text h in omega arith)
+    ∙ ap (spot (closed before + 1)) (length-append before text)
 
 behind_append : (stop : ℕ) (xs ys : List (List ℕ)) → behind stop (xs ++ ys) ≡ behind stop xs ++ behind stop ys
 behind_append stop [] ys = refl

@@ -1,15 +1,15 @@
 -- What is wrong is found.
 use Rattle.std.proofs.Common.{◌≡◌, ℕ, ◌+◌, true, false, ltb, List, [], ◌∷◌, ◌++◌, length, Ok, Result, sym, refl, ap, ◌∙◌, subst, arith}
 use Rattle.std.proofs.lemmas.Bool.{cond-true, cond-false, lt-ltb, both_ways}
-use Rattle.faults.proofs.Beginnings.{closed_line, length_line, place_said}
-use Rattle.faults.proofs.Ends.{more_left}
+use Rattle.faults.proofs.Beginnings.{place_said}
+use Rattle.sheet.proofs.Beginnings.{closed_line, length_line}
+use Rattle.sheet.proofs.Ends.{more_left}
 use Rattle.faults.proofs.Inverts.{numbers_stop, name_stop, places_stop, open_stop}
 use Rattle.faults.proofs.Outcomes.{stop_at}
-use Rattle.faults.proofs.Reaches.{reached_reads}
-use Rattle.faults.specs.Begins.{closed, place_behind, may_come, Reached, NextLine}
+use Rattle.sheet.proofs.Reaches.{line_forward, reached_reads}
+use Rattle.sheet.specs.Begins.{closed, place_behind, may_come, Reached, NextLine}
 use Rattle.faults.specs.Faulty.{Faulty, too_long, unclosed, unknown_word, out_of_order, in_line, behind_tail, Breaks}
 use Rattle.faults.specs.Parts.{bad_word}
-use Rattle.sheet.proofs.Complete.{line_forward}
 use Rattle.sheet.proofs.Cuts.{lines_step, not_last}
 use Rattle.sheet.proofs.Inverts.{places_complete}
 use Rattle.sheet.proofs.Joins.{lacks_append, lacks_behind, split_cut, split_whole, split_behind}

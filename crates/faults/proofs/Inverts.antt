@@ -1,19 +1,20 @@
 -- What the reading of a line's words tells, and the other way round.
-use Rattle.std.proofs.Common.{◌≡◌, ℕ, ◌+◌, cond, eqb, List, [], ◌∷◌, ◌++◌, length, Some, None, Ok, Err, Option, Result, sym, refl, ap, ◌∙◌, subst, append_assoc, append-nil, arith, length-append}
+use Rattle.std.proofs.Common.{◌≡◌, ℕ, ◌+◌, cond, eqb, List, [], ◌∷◌, ◌++◌, length, Some, None, Ok, Err, Option, Result, sym, refl, ap, ◌∙◌, subst, append_assoc, arith, length-append}
 use Rattle.std.proofs.lemmas.Bool.{eq-eqb, ne_eqb, eqb-true, eqb-false, cond-true, cond-false, cond_both}
 use Rattle.std.proofs.lemmas.List.{nil_from_length}
 use Rattle.std.specs.Option.{ok_or}
+use Rattle.std.proofs.lemmas.Option.{none-some}
 use Rattle.faults.proofs.Outcomes.{line_by, then_by, line_stop, then_stop}
 use Rattle.faults.specs.Faulty.{NoNumber, empty_word, not_number, NoPlace, no_number_at, false_place, BadName, no_name, unknown_name, second_name, BadNumber, BadPlace, at_word, too_few}
 use Rattle.faults.specs.Parts.{bad_word}
 use Rattle.sheet.proofs.Figures.{numeral_sound, numeral_complete}
 use Rattle.sheet.proofs.Inverts.{due_complete, place_complete}
-use Rattle.sheet.proofs.Known.{none_some, number_kind, keyword_sound, field_sound, keyword_is, name_is}
+use Rattle.sheet.proofs.Known.{number_kind, keyword_sound, field_sound, name_is}
 use Rattle.sheet.specs.Form.{behind, AreNumbers}
 use Rattle.sheet.specs.Lines.{as_sheet, place_due_of, places_after}
 use Rattle.sheet.specs.Names.{keyword, field_name_of}
 use Rattle.sheet.specs.Numeral.{Number}
-use Rattle.sheet.specs.Reading.{spot, and_then, number_of, as_line, number_due_of, numbers_after, no_more, field_after, Opened, opened}
+use Rattle.sheet.specs.Reading.{spot, and_then, number_of, as_line, number_due_of, numbers_after, no_more, field_after, opened}
 use Rattle.sheet.specs.Words.{kind_of, as_keyword, as_name, as_number}
 use Rattle.sheet.specs.declared.fault.At.{At}
 use Rattle.sheet.specs.declared.fault.LineFault.{LineFault}
@@ -36,7 +37,7 @@ DueTold a w (Ok n) = Number w n
 DueTold a w (Err e) = NoNumber w a e
 
 kind_told : (a : At) (w : List ℕ) (o : Option ℕ) → (w ≡ [] → ⊥) → as_number (kind_of w) ≡ o → DueTold a w (as_sheet (as_line (ok_or o (record { at = a }))))
-kind_told a w None some p = not_number some (λ n h. none_some n (sym p ∙ number_kind w ∙ numeral_complete w n h)) refl
+kind_told a w None some p = not_number some (λ n h. none-some n (sym p ∙ number_kind w ∙ numeral_complete w n h)) refl
 kind_told a w (Some n) some p = numeral_sound w n (sym (number_kind w) ∙ p)
 
 due_told : (a : At) (w : List ℕ) → DueTold a w (as_sheet (number_due_of a w))
@@ -61,11 +62,11 @@ due_stops a w e (not_number some never is) =
 
 -- Numbers.
 abbrev pub NumbersTold : ℕ → ℕ → List ℕ → List (List ℕ) → Result (List ℕ) SheetFault → Type 0
-NumbersTold line byte acc ws (Ok out) = (ns : List ℕ) × (out ≡ acc ++ ns) × AreNumbers ws ns
+NumbersTold line byte acc ws (Ok out) = Unit {0}
 NumbersTold line byte acc ws (Err e) = (said : List ℕ) × BadNumber ws said (spot line (byte + length said)) e
 
 number_before : (line byte : ℕ) (v : List ℕ) (n : ℕ) (ws : List (List ℕ)) (acc : List ℕ) (r : Result (List ℕ) SheetFault) → Number v n → NumbersTold line (byte + 1 + length v) (acc ++ n ∷ []) ws r → NumbersTold line byte acc (v ∷ ws) r
-number_before line byte v n ws acc (Ok out) h (ns, is, all) = (n ∷ ns, is ∙ append_assoc acc (n ∷ []) ns, (h, all))
+number_before line byte v n ws acc (Ok out) h u = tt
 number_before line byte v n ws acc (Err e) h (said, b) = (
   32 ∷ (v ++ said),
   record {
@@ -81,7 +82,7 @@ number_before line byte v n ws acc (Err e) h (said, b) = (
 )
 
 pub numbers_told : (line byte : ℕ) (acc : List ℕ) (ws : List (List ℕ)) → NumbersTold line byte acc ws (as_sheet (numbers_after line byte acc ws))
-numbers_told line byte acc [] = ([], sym (append-nil acc), tt)
+numbers_told line byte acc [] = tt
 numbers_told line byte acc (w ∷ ws) =
     line_by (NumbersTold line byte acc (w ∷ ws)) (number_due_of (spot line (byte + 1)) w) (λ n. numbers_after line (byte + 1 + length w) (acc ++ n ∷ []) ws)
     (λ n p. number_before line byte w n ws acc _ (due_is _ w (Ok n) p) (numbers_told line (byte + 1 + length w) (acc ++ n ∷ []) ws))
@@ -102,18 +103,18 @@ numbers_stop line byte acc ws said e b =
 
 -- One field name.
 abbrev pub NameTold : ℕ → ℕ → List (List ℕ) → Result FieldName SheetFault → Type 0
-NameTold line byte ws (Ok f) = ws ≡ field_name_of f ∷ []
+NameTold line byte ws (Ok f) = Unit {0}
 NameTold line byte ws (Err e) = (said : List ℕ) × BadName ws said (spot line (byte + length said)) e
 
 name_only : (line byte : ℕ) (f : FieldName) (w : List ℕ) (ws : List (List ℕ)) → w ≡ field_name_of f → NameTold line byte (w ∷ ws) (as_sheet (no_more line (byte + 1 + length w) ws f))
-name_only line byte f w [] is = ap (λ v. v ∷ []) is
+name_only line byte f w [] is = tt
 name_only line byte f w (v ∷ ws) is =
     let said : List ℕ = behind 32 (field_name_of f ∷ []) ++ 32 ∷ [] in
     let place : byte + 1 + length w + 1 ≡ byte + length said = ap (λ t. byte + 1 + length t + 1) is ∙ simp length-append (omega arith) in
     (said, second_name f v ws (ap (λ u. u ∷ v ∷ ws) is) refl (ap (λ n. bad_word (spot line n)) place))
 
 name_kind : (line byte : ℕ) (w : List ℕ) (ws : List (List ℕ)) (o : Option FieldName) → as_name (kind_of w) ≡ o → NameTold line byte (w ∷ ws) (as_sheet (and_then (ok_or o (BadWord (spot line (byte + 1)))) (no_more line (byte + 1 + length w) ws)))
-name_kind line byte w ws None p = (32 ∷ [], unknown_name w ws refl (λ f is. none_some f (sym p ∙ ap (λ v. as_name (kind_of v)) is ∙ (name_is f).2)) refl refl)
+name_kind line byte w ws None p = (32 ∷ [], unknown_name w ws refl (λ f is. none-some f (sym p ∙ ap (λ v. as_name (kind_of v)) is ∙ (name_is f).2)) refl refl)
 name_kind line byte w ws (Some f) p = name_only line byte f w ws (field_sound w f p)
 
 pub name_told : (line byte : ℕ) (ws : List (List ℕ)) → NameTold line byte ws (as_sheet (field_after line byte ws))
@@ -143,7 +144,7 @@ name_stop line byte ws said e (second_name f w more words here is) =
 
 -- The tail.
 abbrev pub PlacesTold : ℕ → ℕ → List ℕ → List (List ℕ) → Result (Unit {0}) SheetFault → Type 0
-PlacesTold line byte ps ws (Ok u) = AreNumbers ws ps
+PlacesTold line byte ps ws (Ok u) = Unit {0}
 PlacesTold line byte ps ws (Err e) = (said : List ℕ) × BadPlace ps ws said (spot line (byte + length said)) e
 
 -- the word is not the first place
@@ -151,7 +152,7 @@ here_false : (line byte : ℕ) (ps w : List ℕ) (ws : List (List ℕ)) (e : She
 here_false line byte ps w ws e b = (32 ∷ [], at_word (record { good = []; first = []; left = ps; w = w; more = ws; places_are = refl; words = refl; numbers = tt; said_is = refl; broken = b }))
 
 place_before : (line byte p : ℕ) (v : List ℕ) (ps : List ℕ) (ws : List (List ℕ)) (r : Result (Unit {0}) SheetFault) → Number v p → PlacesTold line (byte + 1 + length v) ps ws r → PlacesTold line byte (p ∷ ps) (v ∷ ws) r
-place_before line byte p v ps ws (Ok u) h all = (h, all)
+place_before line byte p v ps ws (Ok u) h all = tt
 place_before line byte p v ps ws (Err e) h (said, at_word b) = (
   32 ∷ (v ++ said),
   at_word (record {
@@ -240,17 +241,6 @@ places_stop line byte ps ws said e (too_few first p left are numbers here is) =
     ∙ ap Err (sym is)
 
 -- The first word.
-abbrev pub OpenTold : ℕ → ℕ → List ℕ → List (List ℕ) → Result Opened SheetFault → Type 0
-OpenTold line byte w ws (Ok o) = (k : Keyword) × (w ≡ keyword k) × (o ≡ record { keyword = k; stop = byte + length (keyword k); words = ws })
-OpenTold line byte w ws (Err e) = ((k : Keyword) → w ≡ keyword k → ⊥) × (e ≡ bad_word (spot line byte))
-
-open_kind : (line byte : ℕ) (w : List ℕ) (ws : List (List ℕ)) (o : Option Keyword) → as_keyword (kind_of w) ≡ o → OpenTold line byte w ws (as_sheet (and_then (ok_or o (BadWord (spot line byte))) (λ k. Ok (record { keyword = k; stop = byte + length w; words = ws }))))
-open_kind line byte w ws None p = (λ k is. none_some k (sym p ∙ ap (λ v. as_keyword (kind_of v)) is ∙ (keyword_is k).2), refl)
-open_kind line byte w ws (Some k) p = let is = keyword_sound w k p in (k, is, ap (λ (v : List ℕ). record { keyword = k; stop = byte + length v; words = ws }) is)
-
-pub open_told : (line byte : ℕ) (w : List ℕ) (ws : List (List ℕ)) → OpenTold line byte w ws (as_sheet (opened line byte (w ∷ ws)))
-open_told line byte w ws = open_kind line byte w ws (as_keyword (kind_of w)) refl
-
 no_keyword : (w : List ℕ) (o : Option Keyword) → ((k : Keyword) → w ≡ keyword k → ⊥) → as_keyword (kind_of w) ≡ o → o ≡ None
 no_keyword w None never p = refl
 no_keyword w (Some k) never p = absurd (never k (keyword_sound w k p))

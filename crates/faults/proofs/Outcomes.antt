@@ -20,10 +20,6 @@ pub then_by : {X Y : Type 0} (P : Result Y SheetFault → Type 0) (r : Result X 
 then_by P (Ok x) f good bad = good x refl
 then_by P (Err e) f good bad = bad e refl
 
-pub stop_by : {X : Type 0} (P : Outcome → Type 0) (ts : List Entry) (r : Result X SheetFault) (f : X → Outcome) → ((x : X) → r ≡ Ok x → P (f x)) → ((e : SheetFault) → r ≡ Err e → P (stopped ts e)) → P (or_stop ts r f)
-stop_by P ts (Ok x) f good bad = good x refl
-stop_by P ts (Err e) f good bad = bad e refl
-
 -- what has stopped stays so
 pub line_stop : {X Y : Type 0} (r : Result X LineFault) (f : X → Result Y LineFault) (e : SheetFault) → as_sheet r ≡ Err e → as_sheet (and_then r f) ≡ Err e
 line_stop (Ok x) f e p = absurd (no_err e x (sym p))

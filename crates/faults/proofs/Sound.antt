@@ -1,23 +1,16 @@
 -- Where the reading stops, that is what is wrong.
-use Rattle.std.proofs.Common.{◌≡◌, ℕ, ◌+◌, ◌<◌, true, false, ltb, List, [], ◌∷◌, ◌++◌, length, Ok, Err, Result, sym, refl, ap, ◌∙◌, subst, append_assoc, append-nil, arith, length-append}
-use Rattle.std.proofs.lemmas.Bool.{cond_both, ltb-true, ltb-false}
-use Rattle.faults.proofs.Beginnings.{closed_line, length_line, place_said, split_lack, split_lack_too}
-use Rattle.faults.proofs.Ends.{EndTold, ended_told}
-use Rattle.faults.proofs.Inverts.{NumbersTold, numbers_told, NameTold, name_told, PlacesTold, places_told, OpenTold, open_told}
-use Rattle.faults.proofs.Outcomes.{stop_by}
-use Rattle.faults.specs.Begins.{closed, place_behind, Opening, Begun, Room, may_come, Reached, NextLine}
-use Rattle.faults.specs.Faulty.{BadNumber, Breaks, Faulty, too_long, unclosed, unknown_word, out_of_order, in_line, behind_tail}
-use Rattle.sheet.proofs.Joins.{rejoin, rejoin_split, lacks_behind}
-use Rattle.sheet.proofs.Splits.{split_some}
-use Rattle.sheet.specs.Form.{Entry, places, behind, AreNumbers, NumberLine, plain, named, TaskText, Tasks}
-use Rattle.sheet.specs.Lines.{Due, start, digits_of, claim_of, entry, Outcome, stopped, or_stop, as_sheet, turn, places_after, ended, lines_after, read_from, reading}
-use Rattle.sheet.specs.Names.{keyword, the_default_field}
-use Rattle.sheet.specs.Reading.{spot, numbers_after, field_after, Opened, opened}
-use Rattle.sheet.specs.Split.{split, AllLack, lacks}
-use Rattle.sheet.specs.declared.fault.At.{At}
+use Rattle.std.proofs.Common.{◌≡◌, ℕ, ◌+◌, true, List, [], length, Ok, Err, refl, sym, subst, arith}
+use Rattle.faults.proofs.Beginnings.{place_said}
+use Rattle.faults.proofs.Inverts.{NumbersTold, numbers_told, NameTold, name_told, PlacesTold, places_told}
+use Rattle.faults.specs.Faulty.{Breaks, Faulty, too_long, unclosed, unknown_word, out_of_order, in_line, behind_tail}
+use Rattle.sheet.proofs.Joins.{lacks_behind}
+use Rattle.sheet.proofs.Walk.{WordsFail, holds_at_all}
+use Rattle.sheet.specs.Begins.{closed, may_come, NextLine}
+use Rattle.sheet.specs.Form.{Entry, places}
+use Rattle.sheet.specs.Lines.{Due, Outcome, reading}
+use Rattle.sheet.specs.Names.{keyword}
+use Rattle.sheet.specs.Reading.{spot}
 use Rattle.sheet.specs.declared.fault.SheetFault.{SheetFault}
-use Rattle.sheet.specs.declared.fault.SheetFault.TheVariants.{Order}
-use Rattle.sheet.specs.declared.names.FieldName.{FieldName}
 use Rattle.sheet.specs.declared.names.Keyword.{Keyword}
 use Rattle.sheet.specs.declared.names.Keyword.TheVariants.{Field, Digits, Claim, Tail}
 
@@ -26,200 +19,27 @@ abbrev pub Told : List ℕ → Outcome → Type 0
 Told sheet (Ok ts) = Unit {0}
 Told sheet (Err s) = Faulty sheet s.tasks s.fault
 
--- one task more
-tasks_more : (b : ℕ) (ts : List Entry) (text : List ℕ) (t : Entry) (own : List ℕ) → Tasks b ts text [] → t.byte ≡ b + length text → TaskText t own → Tasks b (ts ++ t ∷ []) (text ++ own) []
-tasks_more b [] text t own none place h = (own, [], ap (λ v. v ++ own) none ∙ sym (append-nil own), place ∙ (let long = ap length none in omega arith), h, refl)
-tasks_more b (u ∷ ts) text t own (first, more, whole, start_is, task, rest) place h =
-    let sum = ap length whole ∙ length-append first more in
-    (first, more ++ own, ap (λ v. v ++ own) whole ∙ append_assoc first more own, start_is, task, tasks_more (b + length first) ts more t own rest (omega arith) h)
+-- words that cannot be read break a rule of their line
+broken : (k : Keyword) (ps : List ℕ) (l stop : ℕ) (ws : List (List ℕ)) (e : SheetFault) → WordsFail k ps l stop ws e → (said : List ℕ) × Breaks k ps ws said (spot l (stop + length said)) e
+broken Field ps l stop ws e p = subst (NameTold l stop ws) p (name_told l stop ws)
+broken Digits ps l stop ws e p = subst (NumbersTold l stop [] ws) p (numbers_told l stop [] ws)
+broken Claim ps l stop ws e p = subst (NumbersTold l stop [] ws) p (numbers_told l stop [] ws)
+broken Tail ps l stop ws e p = subst (PlacesTold l stop ps ws) p (places_told l stop ps ws)
 
-module _ (sheet before s more : List ℕ) (free : lacks 10 s ≡ true) where
-  abbrev after_line : List ℕ
-  after_line = before ++ (s ++ 10 ∷ [])
-
-  module _ (ts : List Entry) (due : Due) (r : Reached sheet ts due before (s ++ 10 ∷ more)) where
-    -- the line is one of the task that is begun
-    onward : (next : Due) → Begun (length r.tasks) next (r.begun ++ (s ++ 10 ∷ [])) → Room next (length ts) → Reached sheet ts next after_line more
-    onward next lines room = record {
-      short = r.short;
-      whole = r.whole ∙ simp append_assoc;
-      tasks = r.tasks;
-      begun = r.begun ++ (s ++ 10 ∷ []);
-      before_is = ap (λ v. v ++ (s ++ 10 ∷ [])) r.before_is ∙ append_assoc r.tasks r.begun (s ++ 10 ∷ []);
-      body = r.body;
-      lines = lines;
-      room = room;
-    }
-
-    -- the line ends the task
-    ends_task : (f : FieldName) (ds cs : List ℕ) → Opening f ds r.begun → NumberLine Claim s cs → length ts < 32 → Reached sheet (ts ++ entry (length r.tasks) f ds cs ∷ []) start after_line more
-    ends_task f ds cs o line few =
-        let own : List ℕ = r.begun ++ (s ++ 10 ∷ []) in
-        record {
-          short = r.short;
-          whole = r.whole ∙ simp append_assoc;
-          tasks = r.tasks ++ own;
-          begun = [];
-          before_is = ap (λ v. v ++ (s ++ 10 ∷ [])) r.before_is ∙ append_assoc r.tasks r.begun (s ++ 10 ∷ []) ∙ sym (append-nil (r.tasks ++ own));
-          body = tasks_more 0 ts r.tasks (entry (length r.tasks) f ds cs) own r.body (omega arith) (record {
-            naming = o.naming;
-            digits = o.digits;
-            claim = s;
-            whole = ap (λ v. v ++ (s ++ 10 ∷ [])) o.whole ∙ simp append_assoc;
-            field_line = o.field_line;
-            digits_line = o.digits_line;
-            claim_line = line;
-          });
-          lines = refl;
-          room = simp length-append (omega arith);
-        }
-
-  -- the line has the keyword k and then the words ws
-  record Words (k : Keyword) (ws : List (List ℕ)) : Type 0 where
-    text : s ≡ keyword k ++ behind 32 ws
-    no_blank : AllLack 32 (keyword k ∷ ws)
-    not_closed : AllLack 10 (keyword k ∷ ws)
-
-  module _ (k : Keyword) (ws : List (List ℕ)) (h : Words k ws) (ts : List Entry) (due : Due) (r : Reached sheet ts due before (s ++ 10 ∷ more)) where
-    next_line : NextLine sheet ts due before (keyword k) ws more
-    next_line = record { reached = subst (λ v. Reached sheet ts due before (v ++ 10 ∷ more)) h.text r; no_blank = h.no_blank; not_closed = h.not_closed }
-
-    misplaced : may_come due (length ts) k ≡ false → Faulty sheet ts (Order (spot (closed before + 1) (length before)))
-    misplaced f = out_of_order due before k ws more next_line f refl
-
-    broken : (e : SheetFault) → may_come due (length ts) k ≡ true → (said : List ℕ) × Breaks k (places ts) ws said (spot (closed before + 1) (length before + length (keyword k) + length said)) e → Faulty sheet ts e
-    broken e may (said, b) =
-        let place = place_said before k (places ts) ws said _ e (lacks_behind 10 32 ws (λ z. omega arith) h.not_closed.1) b in
-        in_line due before k ws more said next_line may (subst (λ a. Breaks k (places ts) ws said a e) (sym place) b)
-
-    -- the numbers of the line lead on, or one is none
-    numbers_then : may_come due (length ts) k ≡ true → ((said : List ℕ) (a : At) (e : SheetFault) → BadNumber ws said a e → Breaks k (places ts) ws said a e) → (f : List ℕ → Outcome) → ((ns : List ℕ) → NumberLine k s ns → Told sheet (f ns))
-        → Told sheet (or_stop ts (as_sheet (numbers_after (closed before + 1) (length before + length (keyword k)) [] ws)) f)
-    numbers_then may breaks f good =
-        let told = numbers_told (closed before + 1) (length before + length (keyword k)) [] ws in
-        stop_by (Told sheet) ts (as_sheet (numbers_after (closed before + 1) (length before + length (keyword k)) [] ws)) f
-        (λ ns p. let t = subst (NumbersTold (closed before + 1) (length before + length (keyword k)) [] ws) p told in good ns (record { words = ws; text = h.text; numbers = subst (AreNumbers ws) (sym t.1) t.2 }))
-        (λ e p. let t = subst (NumbersTold (closed before + 1) (length before + length (keyword k)) [] ws) p told in broken e may (t.0, breaks t.0 _ e t.1))
-
-  module _ (next : List Entry → Due → Outcome) (end : Result (Unit {0}) SheetFault)
-      (ih : (ts : List Entry) (due : Due) → Reached sheet ts due after_line more → Told sheet (next ts due))
-      (ih-end : EndTold (closed before + 1 + 1) (length before + length s + 1) more end) where
-    tail_told : (ts : List Entry) (ws : List (List ℕ)) → Words Tail ws → Reached sheet ts start before (s ++ 10 ∷ more) → AreNumbers ws (places ts) → Told sheet (or_stop ts end (λ _. Ok ts))
-    tail_told ts ws h r all =
-        stop_by (Told sheet) ts end (λ _. Ok ts)
-        (λ u p. tt)
-        (λ e p.
-        let t = subst (EndTold (closed before + 1 + 1) (length before + length s + 1) more) p ih-end in
-        behind_tail before ws more (next_line Tail ws h ts start r) all t.0
-        (t.1
-        ∙ ap (λ n. Order (spot (n + 1) (length before + length s + 1))) (sym (closed_line before s free))
-        ∙ ap (λ n. Order (spot (closed after_line + 1) n)) (sym (length_line before s))
-        ∙ ap (λ v. Order (place_behind (before ++ (v ++ 10 ∷ [])))) h.text))
-
-    line_told : (ts : List Entry) (due : Due) (k : Keyword) (ws : List (List ℕ)) → Words k ws → Reached sheet ts due before (s ++ 10 ∷ more) → Told sheet (turn (closed before + 1) (length before) ts due next end k (length before + length (keyword k)) ws)
-    line_told ts start Field ws h r =
-        let l = closed before + 1 in
-        let stop = length before + length (keyword Field) in
-        cond_both (ltb (length ts) 32) (or_stop ts (as_sheet (field_after l stop ws)) (λ f. next ts (digits_of (length before) f))) (stopped ts (Order (spot l (length before)))) (Told sheet)
-        (λ t.
-        stop_by (Told sheet) ts (as_sheet (field_after l stop ws)) (λ f. next ts (digits_of (length before) f))
-        (λ f p.
-        let one = subst (NameTold l stop ws) p (name_told l stop ws) in
-        ih ts (digits_of (length before) f)
-        (onward ts start r (digits_of (length before) f)
-        (ap length (r.before_is ∙ ap (λ v. r.tasks ++ v) r.lines ∙ append-nil r.tasks), ap (λ v. v ++ (s ++ 10 ∷ [])) r.lines ∙ ap (λ v. v ++ 10 ∷ []) (h.text ∙ ap (λ vs. keyword Field ++ behind 32 vs) one))
-        (ltb-true _ _ t)))
-        (λ e p. broken Field ws h ts start r e t (subst (NameTold l stop ws) p (name_told l stop ws))))
-        (λ f. misplaced Field ws h ts start r f)
-    line_told ts start Digits ws h r =
-        let l = closed before + 1 in
-        cond_both (ltb (length ts) 32) (or_stop ts (as_sheet (numbers_after l (length before + length (keyword Digits)) [] ws)) (λ ds. next ts (claim_of (length before) the_default_field ds))) (stopped ts (Order (spot l (length before)))) (Told sheet)
-        (λ t.
-        numbers_then Digits ws h ts start r t (λ said a e b. b) (λ ds. next ts (claim_of (length before) the_default_field ds))
-        (λ ds line.
-        ih ts (claim_of (length before) the_default_field ds)
-        (onward ts start r (claim_of (length before) the_default_field ds)
-        (ap length (r.before_is ∙ ap (λ v. r.tasks ++ v) r.lines ∙ append-nil r.tasks), record { naming = []; digits = s; whole = ap (λ v. v ++ (s ++ 10 ∷ [])) r.lines; field_line = plain refl refl; digits_line = line })
-        (ltb-true _ _ t))))
-        (λ f. misplaced Digits ws h ts start r f)
-    line_told ts start Claim ws h r = misplaced Claim ws h ts start r refl
-    line_told ts start Tail ws h r =
-        let l = closed before + 1 in
-        let stop = length before + length (keyword Tail) in
-        let told = places_told l stop (places ts) ws in
-        stop_by (Told sheet) ts (places_after l stop (places ts) ws) (λ _. or_stop ts end (λ _. Ok ts))
-        (λ u p. tail_told ts ws h r (subst (PlacesTold l stop (places ts) ws) p told))
-        (λ e p. broken Tail ws h ts start r e refl (subst (PlacesTold l stop (places ts) ws) p told))
-    line_told ts (digits_of b f) Field ws h r = misplaced Field ws h ts (digits_of b f) r refl
-    line_told ts (digits_of b f) Digits ws h r =
-        numbers_then Digits ws h ts (digits_of b f) r refl (λ said a e b. b) (λ ds. next ts (claim_of b f ds))
-        (λ ds line.
-        ih ts (claim_of b f ds)
-        (onward ts (digits_of b f) r (claim_of b f ds) (r.lines.0, record { naming = r.begun; digits = s; whole = refl; field_line = named r.lines.1; digits_line = line }) r.room))
-    line_told ts (digits_of b f) Claim ws h r = misplaced Claim ws h ts (digits_of b f) r refl
-    line_told ts (digits_of b f) Tail ws h r = misplaced Tail ws h ts (digits_of b f) r refl
-    line_told ts (claim_of b f ds) Field ws h r = misplaced Field ws h ts (claim_of b f ds) r refl
-    line_told ts (claim_of b f ds) Digits ws h r = misplaced Digits ws h ts (claim_of b f ds) r refl
-    line_told ts (claim_of b f ds) Claim ws h r =
-        numbers_then Claim ws h ts (claim_of b f ds) r refl (λ said a e b. b) (λ cs. next (ts ++ entry b f ds cs ∷ []) start)
-        (λ cs line.
-        ih (ts ++ entry b f ds cs ∷ []) start
-        (subst (λ n. Reached sheet (ts ++ entry n f ds cs ∷ []) start after_line more) (sym r.lines.0) (ends_task ts (claim_of b f ds) r f ds cs r.lines.1 line r.room)))
-    line_told ts (claim_of b f ds) Tail ws h r = misplaced Tail ws h ts (claim_of b f ds) r refl
-
-parts_of : (ps : List (List ℕ)) → 0 < length ps → (w : List ℕ) × (ws : List (List ℕ)) × (ps ≡ w ∷ ws)
-parts_of [] h = absurd (omega arith)
-parts_of (w ∷ ws) h = (w, ws, refl)
-
-lines_told : (sheet : List ℕ) (ls : List (List ℕ)) (before : List ℕ) (l b : ℕ) (ts : List Entry) (due : Due) → AllLack 10 ls → l ≡ closed before + 1 → b ≡ length before → Reached sheet ts due before (rejoin 10 ls) → Told sheet (lines_after l b ls ts due)
-unfolding lines_after
-lines_told sheet [] before l b ts due lack l-is b-is r = unclosed due before [] r refl (ap (λ n. Order (spot n b)) l-is ∙ ap (λ n. Order (spot (closed before + 1) n)) b-is)
-lines_told sheet (s ∷ []) before l b ts due lack l-is b-is r = unclosed due before s (subst (Reached sheet ts due before) (append-nil s) r) lack.0 (ap (λ n. Order (spot n b)) l-is ∙ ap (λ n. Order (spot (closed before + 1) n)) b-is)
-lines_told sheet (s ∷ m ∷ ls) before l b ts due lack l-is b-is r =
-    let more : List ℕ = rejoin 10 (m ∷ ls) in
-    let parts = parts_of (split 32 s) (split_some 32 s) in
-    let w : List ℕ = parts.0 in
-    let ws : List (List ℕ) = parts.1 in
-    let text : s ≡ w ++ behind 32 ws = sym (rejoin_split 32 s) ∙ ap (rejoin 32) parts.2 in
-    let no_blank : AllLack 32 (w ∷ ws) = subst (AllLack 32) parts.2 (split_lack 32 s) in
-    let not_closed : AllLack 10 (w ∷ ws) = subst (AllLack 10) parts.2 (split_lack_too 10 32 s lack.0) in
-    let next : ℕ → ℕ → List Entry → Due → Outcome = λ l b. lines_after (l + 1) (b + length s + 1) (m ∷ ls) in
-    let end : ℕ → ℕ → Result (Unit {0}) SheetFault = λ l b. ended (l + 1) (b + length s + 1) (m ∷ ls) in
-    let go : ℕ → ℕ → List (List ℕ) → Outcome = λ l b ps. or_stop ts (as_sheet (opened l b ps)) (λ o. turn l b ts due (next l b) (end l b) o.keyword o.stop o.words) in
-    let l0 : ℕ = closed before + 1 in
-    let b0 : ℕ = length before in
-    let here : Told sheet (go l0 b0 (w ∷ ws)) =
-    stop_by (Told sheet) ts (as_sheet (opened l0 b0 (w ∷ ws))) (λ o. turn l0 b0 ts due (next l0 b0) (end l0 b0) o.keyword o.stop o.words)
-    (λ o p.
-    let t = subst (OpenTold l0 b0 w ws) p (open_told l0 b0 w ws) in
-    let k : Keyword = t.0 in
-    subst (λ (o : Opened). Told sheet (turn l0 b0 ts due (next l0 b0) (end l0 b0) o.keyword o.stop o.words)) (sym t.2)
-    (line_told sheet before s more lack.0 (next l0 b0) (end l0 b0)
-    (λ us d reached. lines_told sheet (m ∷ ls) (before ++ (s ++ 10 ∷ [])) (l0 + 1) (b0 + length s + 1) us d lack.1 (let c = closed_line before s lack.0 in omega arith) (sym (length_line before s)) reached)
-    (ended_told (l0 + 1) (b0 + length s + 1) m ls)
-    ts due k ws
-    (record { text = text ∙ ap (λ v. v ++ behind 32 ws) t.1; no_blank = subst (λ v. AllLack 32 (v ∷ ws)) t.1 no_blank; not_closed = subst (λ v. AllLack 10 (v ∷ ws)) t.1 not_closed })
-    r))
-    (λ e p.
-    let t = subst (OpenTold l0 b0 w ws) p (open_told l0 b0 w ws) in
-    unknown_word due before w ws more (record { reached = subst (λ v. Reached sheet ts due before (v ++ 10 ∷ more)) text r; no_blank = no_blank; not_closed = not_closed }) t.0 t.1) in
-    subst (λ n. Told sheet (go n b (split 32 s))) (sym l-is)
-    (subst (λ n. Told sheet (go l0 n (split 32 s))) (sym b-is)
-    (subst (λ ps. Told sheet (go l0 b0 ps)) (sym parts.2) here))
+line_broken : (sheet : List ℕ) (ts : List Entry) (due : Due) (before : List ℕ) (k : Keyword) (ws : List (List ℕ)) (more : List ℕ) → NextLine sheet ts due before (keyword k) ws more
+    → may_come due (length ts) k ≡ true → (e : SheetFault) → WordsFail k (places ts) (closed before + 1) (length before + length (keyword k)) ws e → Faulty sheet ts e
+line_broken sheet ts due before k ws more h may e p =
+    let b = broken k (places ts) (closed before + 1) (length before + length (keyword k)) ws e p in
+    let place = place_said before k (places ts) ws b.0 _ e (lacks_behind 10 32 ws (λ z. omega arith) h.not_closed.1) b.1 in
+    in_line due before k ws more b.0 h may (subst (λ a. Breaks k (places ts) ws b.0 a e) (sym place) b.1)
 
 pub told : (sheet : List ℕ) → Told sheet (reading sheet)
-told sheet =
-    cond_both (ltb 32768 (length sheet)) (stopped [] (Order (spot 1 0))) (read_from sheet 1 0 [] start) (Told sheet)
-    (λ t. too_long (ltb-true _ _ t) refl refl)
-    (λ f.
-    lines_told sheet (split 10 sheet) [] 1 0 [] start (split_lack 10 sheet) refl refl
-    (record {
-      short = ltb-false _ _ f;
-      whole = sym (rejoin_split 10 sheet);
-      tasks = [];
-      begun = [];
-      before_is = refl;
-      body = refl;
-      lines = refl;
-      room = omega arith;
-    }))
+told sheet = holds_at_all sheet (Told sheet) (record {
+  long = λ long. too_long long refl refl;
+  no_line = λ ts due before rest r lack. unclosed due before rest r lack refl;
+  first_word = λ ts due before w ws more h never. unknown_word due before w ws more h never refl;
+  misplaced = λ ts due before k ws more h f. out_of_order due before k ws more h f refl;
+  words = line_broken sheet;
+  goes_on = λ ts before ws more h numbers some. behind_tail before ws more h numbers some refl;
+  whole = λ ts h. tt;
+})

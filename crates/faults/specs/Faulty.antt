@@ -8,7 +8,7 @@
 --   Breaks k ps ws said a e   one of these, for a line with the keyword k
 --   Faulty sheet ts e         the sheet is in order up to the place of e, which stands behind the tasks ts, and there breaks the rule that e tells
 use Rattle.std.specs.Prelude.{◌≡◌, ℕ, ◌<◌, true, false, List, [], ◌∷◌, ◌++◌, length, ◌≢◌}
-use Rattle.faults.specs.Begins.{place_behind, may_come, Reached, NextLine}
+use Rattle.sheet.specs.Begins.{place_behind, may_come, Reached, NextLine}
 use Rattle.faults.specs.Parts.{bad_word, no_number}
 use Rattle.sheet.specs.Form.{Entry, places, behind, AreNumbers}
 use Rattle.sheet.specs.Lines.{Due, start}

@@ -1,4 +1,3 @@
-pub mod Begins
 pub mod Exact
 pub mod Faulty
 pub mod Parts

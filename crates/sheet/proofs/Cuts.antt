@@ -1,10 +1,11 @@
 -- One line cut off the rest of the sheet, and the end of the sheet.
-use Rattle.std.proofs.Common.{◌≡◌, ℕ, ◌+◌, ◌<◌, ◌≤◌, ◌&&◌, eqb, List, [], ◌∷◌, length, take, drop, Ok, Err, Result, sym, refl, ap, ◌∙◌, ⊎_elim, arith}
-use Rattle.std.proofs.lemmas.List.{drop_all, drop-drop, length-take-le, length-drop}
-use Rattle.std.proofs.lemmas.Bool.{ne_eqb, cond-true, cond-false, cases_Bool, cond_both, and_left}
+use Rattle.std.proofs.Common.{◌≡◌, ℕ, ◌+◌, ◌<◌, ◌≤◌, ◌&&◌, eqb, List, [], ◌∷◌, ◌++◌, length, drop, Ok, Err, Result, sym, refl, ap, ◌∙◌, ⊎_elim, arith}
+use Rattle.std.proofs.lemmas.List.{drop_all, drop-drop, length-drop}
+use Rattle.std.proofs.Math.Seq.{drop-append_seam}
+use Rattle.std.proofs.lemmas.Bool.{ne_eqb, le-ltb, cond-true, cond-false, cases_Bool, cond_both, and_left}
 use Rattle.sheet.proofs.Splits.{after_drop, after_none, split_some}
 use Rattle.sheet.specs.Form.{Entry}
-use Rattle.sheet.specs.Lines.{Due, Outcome, stopped, or_stop, as_sheet, turn, ended, opened_of, lines_after, read_from, end_from}
+use Rattle.sheet.specs.Lines.{Due, Outcome, stopped, or_stop, as_sheet, turn, ended, opened_of, lines_after, read_from, end_from, reading_from, start}
 use Rattle.sheet.specs.Reading.{spot, Opened, opened}
 use Rattle.sheet.specs.Split.{prepend, split, after}
 use Rattle.sheet.specs.declared.fault.LineFault.{LineFault}
@@ -33,35 +34,26 @@ not_last line byte l stop (b ∷ bs) =
     (cases_Bool (eqb b stop))
 
 -- text is the line at the byte b0, and behind is what follows it
-pub record Cut (sheet : List ℕ) (b0 n : ℕ) (left text behind : List ℕ) : Type 0 where
-  pub rest : left ≡ drop b0 sheet
-  pub inside : n ≤ length left
-  pub front : text ≡ take n left
-  pub back : behind ≡ drop n left
-  pub cut : split 10 left ≡ take n left ∷ after 10 (drop n left)
+pub record Cut (sheet : List ℕ) (b0 : ℕ) (text behind : List ℕ) : Type 0 where
+  pub whole : drop b0 sheet ≡ text ++ behind
+  pub pieces : split 10 (drop b0 sheet) ≡ text ∷ after 10 behind
 
-module _ {sheet : List ℕ} {b0 n : ℕ} {left text behind : List ℕ} (h : Cut sheet b0 n left text behind) (l0 : ℕ) (ts : List Entry) (due : Due) where
-  pieces : split 10 (drop b0 sheet) ≡ text ∷ after 10 behind
-  pieces = let a = h.rest in let b = h.front in let c = h.back in let d = h.cut in cc
-
+module _ {sheet : List ℕ} {b0 : ℕ} {text behind : List ℕ} (h : Cut sheet b0 text behind) (l0 : ℕ) (ts : List Entry) (due : Due) where
   pub no_line : length behind ≡ 0 → read_from sheet l0 b0 ts due ≡ stopped ts (Order (spot l0 b0))
   no_line e =
-      ap (λ ps. lines_after l0 b0 ps ts due) (pieces ∙ ap (λ ps. text ∷ ps) (after_none 10 behind e))
+      ap (λ ps. lines_after l0 b0 ps ts due) (h.pieces ∙ ap (λ ps. text ∷ ps) (after_none 10 behind e))
       ∙ lines_step l0 b0 text [] ts due
-
-  long : length text ≡ n
-  long = ap length h.front ∙ length-take-le n left h.inside
 
   -- the lines behind begin at the next byte
   behind_is : 0 < length behind → after 10 behind ≡ split 10 (drop (b0 + length text + 1) sheet)
   behind_is some =
       after_drop 10 behind some
       ∙ ap (split 10)
-      (ap (drop 1) (h.back ∙ ap (drop n) h.rest ∙ drop-drop n b0 sheet) ∙ drop-drop 1 (b0 + n) sheet ∙ ap (λ k. drop (b0 + k + 1) sheet) (sym long))
+      (ap (drop 1) (sym (drop-append_seam text behind) ∙ ap (drop (length text)) (sym h.whole) ∙ drop-drop (length text) b0 sheet) ∙ drop-drop 1 (b0 + length text) sheet)
 
   pub line_is : 0 < length behind → (r : Result Opened LineFault) → opened l0 b0 (split 32 text) ≡ r → read_from sheet l0 b0 ts due ≡ goes_to l0 b0 ts due (read_from sheet (l0 + 1) (b0 + length text + 1)) (end_from sheet (l0 + 1) (b0 + length text + 1)) r
   line_is some r e =
-      ap (λ ps. lines_after l0 b0 ps ts due) (pieces ∙ ap (λ ps. text ∷ ps) (behind_is some))
+      ap (λ ps. lines_after l0 b0 ps ts due) (h.pieces ∙ ap (λ ps. text ∷ ps) (behind_is some))
       ∙ lines_step l0 b0 text (split 10 (drop (b0 + length text + 1) sheet)) ts due
       ∙ ap (λ o. or_stop ts o (λ o. turn l0 b0 ts due (read_from sheet (l0 + 1) (b0 + length text + 1)) (end_from sheet (l0 + 1) (b0 + length text + 1)) o.keyword o.stop o.words))
       (not_last l0 b0 text 10 (drop (b0 + length text + 1) sheet))
@@ -84,3 +76,7 @@ ends_at sheet l b h = ap (λ xs. ended l b (split 10 xs)) (drop_all b sheet h)
 
 pub goes_on_at : (sheet : List ℕ) (l b : ℕ) → b < length sheet → end_from sheet l b ≡ Err (Order (spot l b))
 goes_on_at sheet l b h = goes_on l b (drop b sheet) (simp length-drop (omega arith))
+
+-- a sheet that is not too long is read
+pub short_is : (sheet : List ℕ) (l b : ℕ) (ts : List Entry) → length sheet ≤ 32768 → reading_from sheet l b ts ≡ read_from sheet l b ts start
+short_is sheet l b ts h = cond-false _ _ _ (le-ltb 32768 (length sheet) h)

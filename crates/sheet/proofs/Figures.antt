@@ -1,5 +1,6 @@
 -- Steps of the loop over a word's figures.
 use Rattle.std.proofs.Common.{◌≡◌, ℕ, ◌+◌, ◌-◌, ◌*◌, ◌^◌, ◌<◌, ◌≤◌, true, false, leb, List, [], ◌∷◌, length, get_or, drop, Some, None, Option, sym, ap, ◌∙◌, ⊎_elim, pow-suc, add-one, arith}
+use Rattle.std.proofs.lemmas.Option.{none-some}
 use Rattle.std.proofs.lemmas.List.{at_drop_more, at_drop_all}
 use Rattle.std.proofs.lemmas.Bool.{le-leb, leb-true, eqb-false, ltb-false, ne_eqb, le-ltb, cond-true, cond-false, cases_lt, cases_eq, cases_Bool, and_parts, and_cases, and_from, and_left, and_right, or_parts, or_from}
 use Rattle.sheet.specs.Numeral.{Figures, value_after, Number, is_figure, figures_after, misshapen, at_most, numeral}
@@ -25,9 +26,6 @@ pub record Read (m : ℕ) (w : List ℕ) (n : ℕ) : Type 0 where
   pub figures : Figures w
   pub value : n ≡ value_after m w
 
-never : {n : ℕ} → None ≡ Some n → ⊥
-never e = let z : ◌≡◌ {A = ℕ} 0 1 = cc in omega arith
-
 read_sound : (m : ℕ) (w : List ℕ) (n : ℕ) → figures_after m w ≡ Some n → Read m w n
 read_sound m [] n e = record { figures = tt; value = let same : m ≡ n = cc in sym same }
 read_sound m (b ∷ bs) n e =
@@ -37,7 +35,7 @@ read_sound m (b ∷ bs) n e =
     let p = and_parts _ _ t in
     let r = read_sound (m * 10 + (b - 48)) bs n (cc) in
     record { figures = ((leb-true _ _ p.0, leb-true _ _ p.1), r.figures); value = r.value })
-    (λ f. let c = cond-false _ (figures_after (m * 10 + (b - 48)) bs) None f in absurd (never {n = n} (cc)))
+    (λ f. let c = cond-false _ (figures_after (m * 10 + (b - 48)) bs) None f in absurd (none-some n (cc)))
     (cases_Bool (is_figure b))
 
 read_complete : (m : ℕ) (w : List ℕ) (n : ℕ) → Figures w → n ≡ value_after m w → figures_after m w ≡ Some n
@@ -45,17 +43,17 @@ read_complete m [] n f v = ap Some (sym v)
 read_complete m (b ∷ bs) n f v = cond-true _ _ _ (figure b f.0.0 f.0.1) ∙ read_complete (m * 10 + (b - 48)) bs n f.1 v
 
 at_most_sound : (o : Option ℕ) (n : ℕ) → at_most o ≡ Some n → (o ≡ Some n) × (n ≤ 65535)
-at_most_sound None n e = absurd (never {n = n} e)
+at_most_sound None n e = absurd (none-some n e)
 at_most_sound (Some m) n e =
     ⊎_elim
     (λ t. let c = cond-true _ (Some m) None t in let same : m ≡ n = cc in let le = leb-true _ _ t in (ap Some same, omega arith))
-    (λ f. let c = cond-false _ (Some m) None f in absurd (never {n = n} (cc)))
+    (λ f. let c = cond-false _ (Some m) None f in absurd (none-some n (cc)))
     (cases_Bool (leb m 65535))
 
 pub numeral_sound : (w : List ℕ) (n : ℕ) → numeral w ≡ Some n → Number w n
 numeral_sound w n e =
     ⊎_elim
-    (λ t. let c = cond-true _ None (at_most (figures_after 0 w)) t in absurd (never {n = n} (cc)))
+    (λ t. let c = cond-true _ None (at_most (figures_after 0 w)) t in absurd (none-some n (cc)))
     (λ f.
     let c = cond-false _ None (at_most (figures_after 0 w)) f in
     let small = at_most_sound (figures_after 0 w) n (cc) in

@@ -1,12 +1,12 @@
 -- What is known of the words of a line that was read.
-use Rattle.std.proofs.Common.{◌≡◌, ℕ, ◌+◌, Bool, true, false, cond, ◌&&◌, eqb, List, [], ◌∷◌, ◌++◌, length, Some, None, Ok, Err, Option, Result, sym, refl, ap, ◌∙◌, subst, append_assoc, append-nil, arith}
+use Rattle.std.proofs.Common.{◌≡◌, ℕ, ◌+◌, Bool, true, false, cond, eqb, List, [], ◌∷◌, ◌++◌, length, Some, None, Ok, Err, Option, Result, sym, refl, ap, ◌∙◌, subst, append_assoc, append-nil, arith}
 use Rattle.std.specs.Option.{ok_or}
-use Rattle.std.proofs.lemmas.List.{nil_from_length}
-use Rattle.std.proofs.lemmas.Bool.{eq-eqb, ne_eqb, eqb-true, cond-true, cond-false, and_parts}
+use Rattle.std.proofs.lemmas.Option.{none-some}
+use Rattle.std.proofs.lemmas.Bool.{eq-eqb, ne_eqb, eqb-true, cond-true, cond-false}
 use Rattle.sheet.proofs.Figures.{numeral_sound, numeral_complete}
 use Rattle.sheet.proofs.Known.{number_kind, keyword_sound, field_sound, keyword_is, name_is}
-use Rattle.sheet.specs.Form.{Entry, AreNumbers}
-use Rattle.sheet.specs.Lines.{Outcome, or_stop, as_sheet, place_due_of, places_after, ended}
+use Rattle.sheet.specs.Form.{AreNumbers}
+use Rattle.sheet.specs.Lines.{as_sheet, place_due_of, places_after}
 use Rattle.sheet.specs.Names.{keyword, field_name_of}
 use Rattle.sheet.specs.Numeral.{Number}
 use Rattle.sheet.specs.Words.{kind_of, as_keyword, as_name, as_number}
@@ -16,7 +16,7 @@ use Rattle.sheet.specs.declared.fault.NumberFault.{NumberFault}
 use Rattle.sheet.specs.declared.fault.LineFault.{LineFault}
 use Rattle.sheet.specs.declared.fault.LineFault.TheVariants.{BadWord, Number as NoNumber}
 use Rattle.sheet.specs.declared.fault.SheetFault.{SheetFault}
-use Rattle.sheet.specs.declared.fault.SheetFault.TheVariants.{Order, Place, Line}
+use Rattle.sheet.specs.declared.fault.SheetFault.TheVariants.{Place, Line}
 use Rattle.sheet.specs.declared.names.Keyword.{Keyword}
 use Rattle.sheet.specs.declared.names.FieldName.{FieldName}
 
@@ -29,10 +29,6 @@ same_ok x y p = cc
 pub bind_ok : {X Y E : Type 0} (r : Result X E) (f : X → Result Y E) (y : Y) → and_then r f ≡ Ok y → (x : X) × (r ≡ Ok x) × (f x ≡ Ok y)
 bind_ok (Ok x) f y p = (x, refl, p)
 bind_ok (Err e) f y p = absurd (no_err e y p)
-
-pub stop_ok : {X : Type 0} (ts : List Entry) (r : Result X SheetFault) (f : X → Outcome) (all : List Entry) → or_stop ts r f ≡ Ok all → (x : X) × (r ≡ Ok x) × (f x ≡ Ok all)
-stop_ok ts (Ok x) f all p = (x, refl, p)
-stop_ok ts (Err e) f all p = absurd (no_err (record { tasks = ts; fault = e }) all p)
 
 pub sheet_ok : {X : Type 0} (r : Result X LineFault) (x : X) → as_sheet r ≡ Ok x → r ≡ Ok x
 sheet_ok (Ok y) x p = ap Ok (same_ok y x p)
@@ -128,20 +124,17 @@ places_complete line byte (b ∷ ps) (w ∷ ws) h =
     ap (λ r. and_then r (λ _. places_after line (byte + 1 + length w) ps ws)) (place_complete (spot line (byte + 1)) w b h.0)
     ∙ places_complete line (byte + 1 + length w) ps ws h.1
 
-pub ended_sound : (line byte : ℕ) (l : List ℕ) (ls : List (List ℕ)) → ended line byte (l ∷ ls) ≡ Ok tt → (l ≡ []) × (ls ≡ [])
-ended_sound line byte l ls p =
-    let q = cond_ok (eqb (length l) 0 && eqb (length ls) 0) (Ok tt) (Order (spot line byte)) tt p in
-    let r = and_parts _ _ q.0 in
-    (nil_from_length l (eqb-true _ _ r.0), nil_from_length ls (eqb-true _ _ r.1))
-
 -- The first word.
-pub opened_sound : (line byte : ℕ) (ps : List (List ℕ)) (o : Opened) → opened line byte ps ≡ Ok o → ps ≡ keyword o.keyword ∷ o.words
-opened_sound line byte [] o p = absurd (no_err (BadWord (spot line byte)) o p)
-opened_sound line byte (w ∷ ws) o p =
-    let q = bind_ok (ok_or (as_keyword (kind_of w)) (BadWord (spot line byte))) (λ k. Ok (record { keyword = k; stop = byte + length w; words = ws })) o p in
-    let s = keyword_sound w q.0 (some_ok (as_keyword (kind_of w)) (BadWord (spot line byte)) q.0 q.1) in
-    let same = same_ok _ o q.2 in
-    ap (λ v. v ∷ ws) (s ∙ ap (λ (o : Opened). keyword o.keyword) same) ∙ ap (λ (o2 : Opened). keyword o.keyword ∷ o2.words) same
+abbrev pub OpenTold : ℕ → ℕ → List ℕ → List (List ℕ) → Result Opened SheetFault → Type 0
+OpenTold line byte w ws (Ok o) = (k : Keyword) × (w ≡ keyword k) × (o ≡ record { keyword = k; stop = byte + length (keyword k); words = ws })
+OpenTold line byte w ws (Err e) = ((k : Keyword) → w ≡ keyword k → ⊥) × (e ≡ Line (BadWord (spot line byte)))
+
+open_kind : (line byte : ℕ) (w : List ℕ) (ws : List (List ℕ)) (o : Option Keyword) → as_keyword (kind_of w) ≡ o → OpenTold line byte w ws (as_sheet (and_then (ok_or o (BadWord (spot line byte))) (λ k. Ok (record { keyword = k; stop = byte + length w; words = ws }))))
+open_kind line byte w ws None p = (λ k is. none-some k (sym p ∙ ap (λ v. as_keyword (kind_of v)) is ∙ (keyword_is k).2), refl)
+open_kind line byte w ws (Some k) p = let is = keyword_sound w k p in (k, is, ap (λ (v : List ℕ). record { keyword = k; stop = byte + length v; words = ws }) is)
+
+pub open_told : (line byte : ℕ) (w : List ℕ) (ws : List (List ℕ)) → OpenTold line byte w ws (as_sheet (opened line byte (w ∷ ws)))
+open_told line byte w ws = open_kind line byte w ws (as_keyword (kind_of w)) refl
 
 pub opened_complete : (line byte : ℕ) (k : Keyword) (ws : List (List ℕ)) → opened line byte (keyword k ∷ ws) ≡ Ok (record { keyword = k; stop = byte + length (keyword k); words = ws })
 opened_complete line byte k ws = ap (λ o. and_then (ok_or o (BadWord (spot line byte))) (λ k2. Ok (record { keyword = k2; stop = byte + length (keyword k); words = ws }))) (keyword_is k).2

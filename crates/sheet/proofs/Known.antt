@@ -1,5 +1,6 @@
 -- What is known of a word's kind.
-use Rattle.std.proofs.Common.{◌≡◌, ℕ, true, List, [], ◌∷◌, Some, None, Option, sym, refl, ap, ◌∙◌, ⊎_elim, arith}
+use Rattle.std.proofs.Common.{◌≡◌, ℕ, true, List, [], ◌∷◌, Some, None, Option, sym, refl, ap, ◌∙◌, ⊎_elim}
+use Rattle.std.proofs.lemmas.Option.{none-some}
 use Rattle.std.specs.Str.{bytes_eq}
 use Rattle.std.proofs.lemmas.Slice.Eq.{bytes_eq-Decides}
 use Rattle.std.proofs.lemmas.Bool.{cond-true, cond-false, cases_Bool}
@@ -12,11 +13,8 @@ use Rattle.sheet.specs.declared.names.Keyword.TheVariants.{Field, Digits, Claim,
 use Rattle.sheet.specs.declared.names.FieldName.{FieldName}
 use Rattle.sheet.specs.declared.names.FieldName.TheVariants.{P2, P3, P5, P7, P17, P31, P127, P251, B4, B16, B256, T256}
 
-pub none_some : {X : Type 0} (y : X) → None ≡ Some y → ⊥
-none_some y p = let z : ◌≡◌ {A = ℕ} 0 1 = cc in omega arith
-
 first_sound : {X : Type 0} (text : X → List ℕ) (xs : List X) (w : List ℕ) (y : X) → first_of text xs w ≡ Some y → w ≡ text y
-first_sound text [] w y p = absurd (none_some y p)
+first_sound text [] w y p = absurd (none-some y p)
 first_sound text (x ∷ xs) w y p =
     ⊎_elim
     (λ t. let same : x ≡ y = let c = cond-true (bytes_eq w (text x)) (Some x) (first_of text xs w) t in cc in (bytes_eq-Decides w (text x)).0 t ∙ ap text same)
@@ -31,16 +29,16 @@ number_found None None (Some f) = refl
 number_found None None None = refl
 
 keyword_found : (n : Option ℕ) (k : Option Keyword) (f : Option FieldName) (y : Keyword) → as_keyword (kind_by n k f) ≡ Some y → k ≡ Some y
-keyword_found (Some n) k f y p = absurd (none_some y p)
+keyword_found (Some n) k f y p = absurd (none-some y p)
 keyword_found None (Some k) f y p = p
-keyword_found None None (Some f) y p = absurd (none_some y p)
-keyword_found None None None y p = absurd (none_some y p)
+keyword_found None None (Some f) y p = absurd (none-some y p)
+keyword_found None None None y p = absurd (none-some y p)
 
 name_found : (n : Option ℕ) (k : Option Keyword) (f : Option FieldName) (y : FieldName) → as_name (kind_by n k f) ≡ Some y → f ≡ Some y
-name_found (Some n) k f y p = absurd (none_some y p)
-name_found None (Some k) f y p = absurd (none_some y p)
+name_found (Some n) k f y p = absurd (none-some y p)
+name_found None (Some k) f y p = absurd (none-some y p)
 name_found None None (Some f) y p = p
-name_found None None None y p = absurd (none_some y p)
+name_found None None None y p = absurd (none-some y p)
 
 pub number_kind : (w : List ℕ) → as_number (kind_of w) ≡ numeral w
 unfolding kind_of

@@ -1,10 +1,14 @@
 pub mod Agrees
+pub mod Beginnings
 pub mod Complete
 pub mod Cuts
+pub mod Ends
 pub mod Figures
 pub mod Inverts
 pub mod Joins
 pub mod Known
 pub mod Noted
+pub mod Reaches
 pub mod Sound
 pub mod Splits
+pub mod Walk

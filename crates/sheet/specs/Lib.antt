@@ -1,8 +1,8 @@
+pub mod Begins
 pub mod Calls
 pub mod Exact
 pub mod Faults
 pub mod Form
-pub mod Held
 pub mod Lines
 pub mod Names
 pub mod Numeral

@@ -1,13 +1,15 @@
 -- What is read from the words of a line, or the first fault. Assumes nothing.
 --   spot l b                  the byte b in the line l
 --   and_then r f              go on with what was read, or keep the fault
---   number_due_of a w         the number that the word w at a is
+--   number_by a k             the number that a word of the kind k at a is
+--   number_due_by a w k       the same of the word w where a number is due, which may not be empty
+--   number_of, number_due_of  the same of the word w, told by its bytes
 --   numbers_after l b ns ws   ns, and then the numbers that the words ws are; the last word ended at the byte b of the line l
 --   field_after l b ws        the field that the one word in ws names
 --   opened l b ws             a line, from the byte b on, with its first word known
 use Rattle.std.specs.Prelude.{ℕ, ◌+◌, cond, List, [], ◌∷◌, ◌++◌, length, Ok, Err, Result, ◌==◌}
 use Rattle.std.specs.Option.{ok_or}
-use Rattle.sheet.specs.Words.{kind_of, as_keyword, as_name, as_number}
+use Rattle.sheet.specs.Words.{Kind, kind_of, as_keyword, as_name, as_number}
 use Rattle.sheet.specs.declared.fault.At.{At}
 use Rattle.sheet.specs.declared.fault.NumberFault.{NumberFault}
 use Rattle.sheet.specs.declared.fault.LineFault.{LineFault}
@@ -26,11 +28,17 @@ abbrev pub as_line : {X : Type 0} → Result X NumberFault → Result X LineFaul
 as_line (Ok x) = Ok x
 as_line (Err e) = Err (Number e)
 
+abbrev pub number_by : At → Kind → Result ℕ NumberFault
+number_by a k = ok_or (as_number k) (record { at = a })
+
 abbrev pub number_of : At → List ℕ → Result ℕ NumberFault
-number_of a w = ok_or (as_number (kind_of w)) (record { at = a })
+number_of a w = number_by a (kind_of w)
+
+abbrev pub number_due_by : At → List ℕ → Kind → Result ℕ LineFault
+number_due_by a w k = cond (length w == 0) (Err (BadWord a)) (as_line (number_by a k))
 
 abbrev pub number_due_of : At → List ℕ → Result ℕ LineFault
-number_due_of a w = cond (length w == 0) (Err (BadWord a)) (as_line (number_of a w))
+number_due_of a w = number_due_by a w (kind_of w)
 
 abbrev pub numbers_after : ℕ → ℕ → List ℕ → List (List ℕ) → Result (List ℕ) LineFault
 numbers_after line byte ns [] = Ok ns

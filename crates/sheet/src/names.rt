@@ -1,10 +1,9 @@
 // The keywords and the field names that a sheet knows.
 ghost use Rattle.std.specs.Prelude.{◌≡◌};
-ghost use Rattle.std.specs.Str.{bytes_eq};
 ghost use Rattle.sheet.specs.Names.{the_default_field, keyword_for, field_of};
 
 /// The first word of a line.
-#[derive(Clone, Copy)]
+#[derive(Clone, Copy, Debug, PartialEq, Eq)]
 pub enum Keyword {
     Field,
     Digits,
@@ -13,7 +12,7 @@ pub enum Keyword {
 }
 
 /// A field that a task can name.
-#[derive(Clone, Copy, Debug, PartialEq)]
+#[derive(Clone, Copy, Debug, PartialEq, Eq)]
 pub enum FieldName {
     P2,
     P3,
@@ -30,74 +29,43 @@ pub enum FieldName {
 }
 
 /// The field of a task that names none.
-pub fn default_field() -> FieldName
-    ensures { result ≡ the_default_field }
-{
-    FieldName::P2
+impl Default for FieldName {
+    ghost is_default = { λ f. f ≡ the_default_field };
+
+    fn default() -> FieldName {
+        FieldName::P2
+    }
 }
 
-fn is(word: &[u8], name: &[u8]) -> bool
-    ensures { result ≡ bytes_eq word.now name.now }
-{
-    word == name
-}
-
+// Keywords and field names are two types: one table of both could not be searched, and two are longer than two matches.
 pub(crate) fn keyword_of(word: &[u8]) -> Option<Keyword>
     ensures { result ≡ keyword_for word.now }
 {
-    if is(word, b"field") {
-        return Some(Keyword::Field);
+    match word {
+        b"field" => Some(Keyword::Field),
+        b"digits" => Some(Keyword::Digits),
+        b"claim" => Some(Keyword::Claim),
+        b"tail" => Some(Keyword::Tail),
+        _ => None,
     }
-    if is(word, b"digits") {
-        return Some(Keyword::Digits);
-    }
-    if is(word, b"claim") {
-        return Some(Keyword::Claim);
-    }
-    if is(word, b"tail") {
-        return Some(Keyword::Tail);
-    }
-    None
 }
 
 pub(crate) fn field_of(word: &[u8]) -> Option<FieldName>
     ensures { result ≡ field_of word.now }
 {
-    if is(word, b"p2") {
-        return Some(FieldName::P2);
+    match word {
+        b"p2" => Some(FieldName::P2),
+        b"p3" => Some(FieldName::P3),
+        b"p5" => Some(FieldName::P5),
+        b"p7" => Some(FieldName::P7),
+        b"p17" => Some(FieldName::P17),
+        b"p31" => Some(FieldName::P31),
+        b"p127" => Some(FieldName::P127),
+        b"p251" => Some(FieldName::P251),
+        b"b4" => Some(FieldName::B4),
+        b"b16" => Some(FieldName::B16),
+        b"b256" => Some(FieldName::B256),
+        b"t256" => Some(FieldName::T256),
+        _ => None,
     }
-    if is(word, b"p3") {
-        return Some(FieldName::P3);
-    }
-    if is(word, b"p5") {
-        return Some(FieldName::P5);
-    }
-    if is(word, b"p7") {
-        return Some(FieldName::P7);
-    }
-    if is(word, b"p17") {
-        return Some(FieldName::P17);
-    }
-    if is(word, b"p31") {
-        return Some(FieldName::P31);
-    }
-    if is(word, b"p127") {
-        return Some(FieldName::P127);
-    }
-    if is(word, b"p251") {
-        return Some(FieldName::P251);
-    }
-    if is(word, b"b4") {
-        return Some(FieldName::B4);
-    }
-    if is(word, b"b16") {
-        return Some(FieldName::B16);
-    }
-    if is(word, b"b256") {
-        return Some(FieldName::B256);
-    }
-    if is(word, b"t256") {
-        return Some(FieldName::T256);
-    }
-    None
 }

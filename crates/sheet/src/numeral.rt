@@ -5,20 +5,22 @@ ghost use Rattle.sheet.specs.Numeral.{figures_after, misshapen, numeral};
 fn is_misshapen(word: &[u8]) -> bool
     ensures { result ≡ misshapen word.now }
 {
-    word.len() == 0 || word.len() > 5 || (word[0] == b'0' && word.len() > 1)
+    matches!(word, [] | [b'0', _, ..]) || word.len() > 5
 }
 
-// The value of the figures, if the bytes are all figures.
+// The value of the figures, if the bytes are all figures. By a `for`: the closure of a `try_fold` would have to know how many came
+// before, for its sum to fit.
+#[tactic(auto, using(crate::proofs::Figures::figure_more, crate::proofs::Figures::figure_stop, crate::proofs::Figures::figure_all, crate::proofs::Figures::ten_more))]
 fn figures(word: &[u8]) -> Option<u32>
     requires { length word.now ≤ 5 }
     ensures { result ≡ figures_after 0 word.now }
 {
-    let mut value: u32 = 0;
+    let mut value = 0;
     for b in word {
         if !b.is_ascii_digit() {
             return None;
         }
-        value = value * 10 + (*b - b'0') as u32;
+        value = value * 10 + u32::from(*b - b'0');
     }
     Some(value)
 }
@@ -29,12 +31,5 @@ pub(crate) fn number_of(word: &[u8]) -> Option<u16>
     if is_misshapen(word) {
         return None;
     }
-    let Some(value) = figures(word) else {
-        return None;
-    };
-    if value > 65535 {
-        None
-    } else {
-        Some(value as u16)
-    }
+    u16::try_from(figures(word)?).ok()
 }

@@ -1,16 +1,25 @@
-// A fixed list of the places of tasks.
-ghost use Rattle.std.specs.Prelude.{◌≡◌, ◌≤◌, length, take};
+// The places of the tasks read so far.
+ghost use Rattle.std.specs.Prelude.{◌≡◌, []};
+ghost use Rattle.sheet.specs.Views.{noted};
 
-mod list;
+use arrayvec::ArrayVec;
 
-// A sheet has at most this many tasks.
-const TASKS: usize = 32;
+/// A sheet has at most this many tasks.
+pub const MOST_TASKS: usize = 32;
 
 /// Where the tasks read so far begin.
 #[derive(Drop)]
 pub struct Places {
-    cells: [usize; TASKS],
-    count: usize,
-    ghost room: { count ≤ 32 },
-    ghost long: { length (take count cells) ≡ count },
+    pub(crate) list: ArrayVec<usize, MOST_TASKS>,
+}
+
+impl Places {
+    /// No places.
+    pub fn new() -> Places
+        ensures { noted result ≡ [] }
+    {
+        Places {
+            list: ArrayVec::new(),
+        }
+    }
 }

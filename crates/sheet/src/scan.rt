@@ -1,42 +1,46 @@
 // Takes words off a line.
-ghost use Rattle.std.specs.Prelude.{◌≡◌, ◌+◌, ◌≤◌, [], ◌∷◌, length, take, drop, Err, MatchOption, MatchResult};
+ghost use Rattle.std.specs.Prelude.{◌≡◌, ◌+◌, ◌≤◌, ◌∷◌, ◌++◌, length, Err, MatchOption, MatchResult, ◌==◌};
+ghost use Rattle.std.specs.Iterator.{at_most};
+ghost use Rattle.std.specs.List.{position};
 ghost use Rattle.sheet.specs.Reading.{opened};
 ghost use Rattle.sheet.specs.Split.{split, after};
-ghost use Rattle.sheet.specs.Steps.{line_end, NextWord, NoWord, LineOpened};
+ghost use Rattle.sheet.specs.Steps.{NextWord, NoWord, LineOpened};
 
 use crate::fault::{At, LineFault};
 use crate::line::{Line, Words};
 use crate::word::Word;
 
-// Where the first `stop` stands, or the text's length where there is none.
-pub(crate) fn find(text: &[u8], stop: u8) -> usize
-    ensures within { result ≤ length text.now }
-    ensures cut { split stop text.now ≡ take result text.now ∷ after stop (drop result text.now) }
+// Where the first `stop` stands.
+fn find(text: &[u8], stop: u8) -> Option<usize>
+    ensures { result ≡ position (λ b. b == stop) text.now }
 {
-    for (i, b) in text.iter().enumerate() {
-        if *b == stop {
-            return i;
-        }
-    }
-    text.len()
+    text.iter().position(|b| *b == stop)
 }
 
-impl<'a> Words<'a> {
-    pub(crate) fn next(&mut self) -> Option<Word<'a>>
-        requires { line_end self.old ≤ 32768 }
-        ensures { MatchOption result (NoWord self.old self.new) (λ w. NextWord self.old w self.new) }
-    {
-        if self.rest.len() == 0 {
-            return None;
-        }
-        let (_, words) = self.rest.split_at(1);
-        let (text, rest) = words.split_at(find(words, b' '));
-        let at = At {
-            line: self.line,
-            byte: self.byte + 1,
+// The text before the first `stop`, and the rest from that on.
+#[tactic(auto, using(crate::proofs::Splits::cut))]
+pub(crate) fn cut(text: &[u8], stop: u8) -> (&[u8], &[u8])
+    ensures pieces { split stop text.now ≡ result.0.now ∷ after stop result.1.now }
+    ensures whole { text.now ≡ result.0.now ++ result.1.now }
+{
+    text.split_at(find(text, stop).unwrap_or(text.len()))
+}
+
+impl<'a> Iterator for Words<'a> {
+    type Item = Word<'a>;
+
+    ghost next_gives = { λ v next w. MatchOption next (NoWord v w) (λ word. NextWord v word w) };
+
+    ghost remaining = { λ v. at_most (length v.rest.now) };
+
+    fn next(&mut self) -> Option<Word<'a>> {
+        let (_, words) = self.rest.split_first()?;
+        let (text, rest) = cut(words, b' ');
+        let at = self.at.along(1);
+        *self = Words {
+            rest,
+            at: at.along(text.len()),
         };
-        self.byte = self.byte + 1 + text.len();
-        self.rest = rest;
         Some(Word::new(text, at))
     }
 }
@@ -46,16 +50,13 @@ pub(crate) fn open_line(text: &[u8], at: At) -> Result<Line<'_>, LineFault>
     requires { at.byte + length text.now ≤ 32768 }
     ensures { MatchResult result (λ l. LineOpened text.now at l) (λ e. opened at.line at.byte (split 32 text.now) ≡ Err e) }
 {
-    let (first, rest) = text.split_at(find(text, b' '));
-    match Word::new(first, at) {
-        Word::Keyword { keyword, text, at } => {
-            let words = Words {
-                rest,
-                line: at.line,
-                byte: at.byte + text.len(),
-            };
-            Ok(Line { keyword, at, words })
-        }
-        _ => Err(LineFault::BadWord(at)),
-    }
+    let (first, rest) = cut(text, b' ');
+    let Word::Keyword { keyword, .. } = Word::new(first, at) else {
+        return Err(LineFault::BadWord(at));
+    };
+    let words = Words {
+        rest,
+        at: at.along(first.len()),
+    };
+    Ok(Line { keyword, at, words })
 }

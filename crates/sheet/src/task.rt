@@ -1,16 +1,12 @@
 // A task of the sheet.
-ghost use Rattle.std.specs.Prelude.{◌≡◌};
-ghost use Rattle.sheet.specs.Views.{entry_of, empty_entry};
+use crate::names::FieldName;
+use arrayvec::ArrayVec;
 
-use crate::names::{FieldName, default_field};
-use crate::numbers::Numbers;
+// No line of a sheet has more numbers: each takes two of its 32,768 bytes.
+pub(crate) const MOST_NUMBERS: usize = 16384;
 
-/// What comes next in a sheet: another task, or its end.
-#[derive(Clone, Copy)]
-pub enum Next {
-    Another,
-    End,
-}
+/// The numbers of a line, from its first to its last.
+pub type Numbers = ArrayVec<u16, MOST_NUMBERS>;
 
 #[derive(Drop)]
 pub struct Task {
@@ -19,18 +15,4 @@ pub struct Task {
     pub field: FieldName,
     pub digits: Numbers,
     pub claim: Numbers,
-}
-
-impl Task {
-    /// A task with no numbers, to be read into.
-    pub fn new() -> Task
-        ensures { entry_of result ≡ empty_entry }
-    {
-        Task {
-            byte: 0,
-            field: default_field(),
-            digits: Numbers::new(),
-            claim: Numbers::new(),
-        }
-    }
 }

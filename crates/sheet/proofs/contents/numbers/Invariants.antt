@@ -1,16 +1,11 @@
 use Rattle.std.proofs.Common.{◌≡◌, ◌*◌, ◌≤◌, [], length}
-use Rattle.sheet.specs.Held.{held}
 use Rattle.sheet.specs.Reading.{numbers_after}
-use Rattle.sheet.specs.Steps.{line_end, words_left}
+use Rattle.sheet.specs.Steps.{words_left}
 use Rattle.sheet.proofs.contents.numbers.Given as goal
 
 -- each number took two bytes at least
 abbrev pub invariant-loop-word : goal.invariant-loop-word
 invariant-loop-word l =
-    (line_end l.words ≤ 32768)
-    × (2 * l.list.count ≤ l.words.byte)
-    × (numbers_after l.initial.words.line l.initial.words.byte [] (words_left l.initial.words)
-    ≡ numbers_after l.words.line l.words.byte (held l.list) (words_left l.words))
-
-abbrev pub decreases-loop-word : goal.decreases-loop-word
-decreases-loop-word l = length l.words.rest.now
+    (2 * length l.list.items ≤ l.word-iterator.at.byte)
+    × (numbers_after l.fn.words.at.line l.fn.words.at.byte [] (words_left l.fn.words)
+    ≡ numbers_after l.word-iterator.at.line l.word-iterator.at.byte l.list.items (words_left l.word-iterator))

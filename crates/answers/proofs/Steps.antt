@@ -2,16 +2,13 @@
 use Rattle.std.proofs.Common.{◌≡◌, ℕ, ◌+◌, List, [], ◌∷◌, ◌++◌, length, sym, refl, ap, ◌∙◌, subst, length-append}
 use Rattle.sheet.specs.Form.{Entry}
 use Rattle.sheet.specs.Faults.{fault_of}
-use Rattle.sheet.specs.Calls.{ByNext, Opens, NextTask, NoTask, Refuses}
+use Rattle.sheet.specs.Calls.{Opens, NextTask, NoTask, Refuses}
 use Rattle.faults.specs.Exact.{FaultsExactly}
 use Rattle.sheet.specs.declared.fault.Fault.{Fault}
 use Rattle.sheet.specs.declared.fault.SheetFault.{SheetFault}
 use Rattle.sheet.specs.declared.reader.Reader.{Reader}
-use Rattle.sheet.specs.declared.task.Next.{Next}
-use Rattle.sheet.specs.declared.task.Next.TheVariants.{Another, End}
-use Rattle.answers.specs.Answers.{Answered, AllAnswered, GoodSheet, FaultySheet, OneFault}
+use Rattle.answers.specs.Answers.{Answer, Answered, AllAnswered, GoodSheet, FaultySheet, OneFault}
 use Rattle.answers.specs.Reading.{SoFar}
-use Rattle.answers.specs.declared.answer.Answer.{Answer}
 
 pub push_long : {X : Type 0} (xs ys : List X) (x : X) → ys ≡ xs ++ x ∷ [] → length ys ≡ length xs + 1
 push_long xs ys x e = ap length e ∙ length-append xs (x ∷ [])
@@ -21,14 +18,6 @@ answered_push [] [] t a all one = (one, tt)
 answered_push [] (b ∷ list) t a all one = absurd all
 answered_push (s ∷ ts) [] t a all one = absurd all
 answered_push (s ∷ ts) (b ∷ list) t a all one = (all.0, answered_push ts list t a all.1 one)
-
--- what comes next is another task, or the end
-module _ (n : Next) (r r' : Reader) (ps ps' : List ℕ) (t t' : Entry) (x : ByNext n (NextTask r ps t' r' ps') (NoTask r ps ps' t t')) where
-  pub another : n ≡ Another → NextTask r ps t' r' ps'
-  another e = subst (λ k. ByNext k (NextTask r ps t' r' ps') (NoTask r ps ps' t t')) e x
-
-  pub end : n ≡ End → NoTask r ps ps' t t'
-  end e = subst (λ k. ByNext k (NextTask r ps t' r' ps') (NoTask r ps ps' t t')) e x
 
 pub so_far_none : (sheet : List ℕ) (r : Reader) → Opens sheet r → SoFar sheet r [] []
 so_far_none sheet r o = record { tasks = []; exact = o.exact; rest = o.first; places_are = refl; answered = tt }
@@ -43,8 +32,8 @@ so_far_more sheet r r' ps ps' list list' t a s n one e = record {
   answered = subst (AllAnswered (s.tasks ++ t ∷ [])) (sym e) (answered_push s.tasks list t a s.answered one);
 }
 
-pub so_far_good : (sheet : List ℕ) (r : Reader) (ps ps' : List ℕ) (list : List Answer) (t t' : Entry) → SoFar sheet r ps list → NoTask r ps ps' t t' → GoodSheet sheet list
-so_far_good sheet r ps ps' list t t' s n = record {
+pub so_far_good : (sheet : List ℕ) (r : Reader) (ps ps' : List ℕ) (list : List Answer) → SoFar sheet r ps list → NoTask r ps ps' → GoodSheet sheet list
+so_far_good sheet r ps ps' list s n = record {
   tasks = s.tasks;
   form = s.exact.sound s.tasks (s.rest ∙ n.read s.tasks s.places_are);
   answered = s.answered;

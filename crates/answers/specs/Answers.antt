@@ -6,8 +6,10 @@
 --   OneFault sheet f           f is what is wrong with the sheet, and nothing else is
 use Rattle.std.specs.Prelude.{◌≡◌, ℕ, List, [], ◌∷◌, Some, None, Ok, Err, Result}
 use Rattle.field.specs.Meaning.{Meaning}
+use Rattle.field.specs.declared.refusal.Refusal.{Refusal}
 use Rattle.synthesis.specs.Scratch.{scratch_cells_for}
 use Rattle.marking.specs.Marks.{Marked, mark_refusal}
+use Rattle.marking.specs.declared.verdict.Mark.{Mark}
 use Rattle.faults.specs.Faulty.{Faulty}
 use Rattle.sheet.specs.Faults.{fault_of}
 use Rattle.sheet.specs.Form.{Entry, Tasks, HasForm}
@@ -15,15 +17,15 @@ use Rattle.sheet.specs.Lines.{stopped, reading}
 use Rattle.sheet.specs.declared.fault.Fault.{Fault}
 use Rattle.sheet.specs.declared.fault.SheetFault.{SheetFault}
 use Rattle.answers.specs.Fields.{meaning_of}
-use Rattle.answers.specs.Held.{answers_in}
-use Rattle.answers.specs.declared.answer.Answer.{Answer}
-use Rattle.answers.specs.declared.answer.Answer.TheVariants.{Marked as MarkedAs, Refused}
-use Rattle.answers.specs.declared.answer.Answers.{Answers}
+
+-- the mark of a task, or why marking refuses it
+abbrev pub Answer : Type 0
+Answer = Result Mark Refusal
 
 -- the scratch never wants for cells
 abbrev pub AnsweredOver : Meaning → List ℕ → List ℕ → Answer → Type 0
-AnsweredOver m w claim (MarkedAs k) = (mark_refusal m w claim (scratch_cells_for 256) ≡ None) × Marked m w claim k
-AnsweredOver m w claim (Refused e) = mark_refusal m w claim (scratch_cells_for 256) ≡ Some e
+AnsweredOver m w claim (Ok k) = (mark_refusal m w claim (scratch_cells_for 256) ≡ None) × Marked m w claim k
+AnsweredOver m w claim (Err e) = mark_refusal m w claim (scratch_cells_for 256) ≡ Some e
 
 abbrev pub Answered : Entry → Answer → Type 0
 Answered t a = AnsweredOver (meaning_of t.field) t.digits t.claim a
@@ -48,8 +50,8 @@ pub record FaultySheet (sheet : List ℕ) (f : Fault) : Type 0 where
   pub begun : (rest : List ℕ) × Tasks 0 tasks sheet rest
   pub no_form : (ts : List Entry) → HasForm sheet ts → ⊥
 
-abbrev pub SheetAnswered : List ℕ → Result Answers Fault → Type 0
-SheetAnswered sheet (Ok a) = GoodSheet sheet (answers_in a)
+abbrev pub SheetAnswered : List ℕ → Result (List Answer) Fault → Type 0
+SheetAnswered sheet (Ok list) = GoodSheet sheet list
 SheetAnswered sheet (Err f) = FaultySheet sheet f
 
 pub record OneFault (sheet : List ℕ) (f : Fault) : Type 0 where

@@ -2,13 +2,10 @@
 #![tactic(auto)]
 
 mod answer;
-mod facts;
 mod fields;
-mod line;
-mod list;
 mod sheets;
 mod text;
 
 pub use answer::{Answer, Answers};
-pub use line::Line;
 pub use sheets::answer_sheet;
+pub use text::Line;

@@ -1,63 +1,36 @@
-// What is written of an answer.
+// What is written of the answers.
 ghost use Rattle.std.specs.Prelude.{◌≡◌, Some};
 ghost use Rattle.std.specs.Fmt.{DisplaysOnOk};
-ghost use Rattle.answers.specs.Held.{answers_in};
-ghost use Rattle.answers.specs.Text.{verdict_word_of, layer_word_of, line_text, tasks_text};
+ghost use Rattle.answers.specs.Text.{line_text, tasks_text};
 
 use crate::answer::{Answer, Answers};
-use crate::line::Line;
-use marking::Verdict;
-use sheet::Layer;
 use std::fmt;
 
-fn verdict_word(verdict: Verdict) -> &'static str
-    ensures { result.now ≡ verdict_word_of verdict }
-{
-    match verdict {
-        Verdict::Wrong(_) => "wrong",
-        Verdict::Long(_) => "long",
-        Verdict::Only => "only",
-        Verdict::Several => "several",
-    }
-}
-
-fn layer_word(layer: Layer) -> &'static str
-    ensures { result.now ≡ layer_word_of layer }
-{
-    match layer {
-        Layer::Number => "number",
-        Layer::Line => "line",
-        Layer::Sheet => "sheet",
-    }
+/// A line of output: the answer to a task with the task's number.
+#[derive(Clone, Copy)]
+pub struct Line {
+    pub number: usize,
+    pub answer: Answer,
 }
 
 impl fmt::Display for Line {
-    ghost output = { λ l. Some (line_text l) };
+    ghost output = { λ l. Some (line_text l.number l.answer) };
 
     fn fmt<W: fmt::Write>(&self, f: &mut fmt::Formatter<W>) -> fmt::Result {
-        match self {
-            Line::Task {
-                number,
-                answer: Answer::Marked(mark),
-            } => {
-                let word = verdict_word(mark.verdict);
-                let detail = mark.verdict.detail();
-                write!(f, "{number} {word} {} {} {detail}", mark.length, mark.count)
-            }
-            Line::Task {
-                number,
-                answer: Answer::Refused(refusal),
-            } => {
-                let refusal = refusal.number();
-                write!(f, "{number} refused {refusal} 0 0")
-            }
-            Line::Fault(fault) => {
-                let layer = layer_word(fault.layer);
+        let number = self.number;
+        match self.answer {
+            Ok(mark) => {
+                let verdict = mark.verdict;
+                let detail = verdict.detail();
                 write!(
                     f,
-                    "fault {} {layer} {} {}",
-                    fault.number, fault.line, fault.byte
+                    "{number} {verdict} {} {} {detail}",
+                    mark.length, mark.count
                 )
+            }
+            Err(refusal) => {
+                let refusal = refusal.number();
+                write!(f, "{number} refused {refusal} 0 0")
             }
         }
     }
@@ -68,7 +41,7 @@ fn write_tasks<W: fmt::Write>(answers: &[Answer], f: &mut fmt::Formatter<W>) -> 
     ensures { DisplaysOnOk W.write_str_gives f.old result (Some (tasks_text 1 answers.now)) f.new }
 {
     for (i, answer) in answers.iter().enumerate() {
-        let line = Line::Task {
+        let line = Line {
             number: i + 1,
             answer: *answer,
         };
@@ -78,7 +51,7 @@ fn write_tasks<W: fmt::Write>(answers: &[Answer], f: &mut fmt::Formatter<W>) -> 
 }
 
 impl fmt::Display for Answers {
-    ghost output = { λ a. Some (tasks_text 1 (answers_in a)) };
+    ghost output = { λ a. Some (tasks_text 1 a) };
 
     fn fmt<W: fmt::Write>(&self, f: &mut fmt::Formatter<W>) -> fmt::Result {
         write_tasks(self.as_slice(), f)

@@ -1,7 +1,7 @@
 // Marks the sheet on standard input: one line for each task, or one for the sheet's first fault.
 #![tactic(auto)]
 
-use answers::{Line, answer_sheet};
+use answers::answer_sheet;
 use std::io;
 use std::io::Read;
 
@@ -18,9 +18,6 @@ fn main(rt: HostRuntime) -> io::Result<()> {
     let sheet = read_sheet(&rt)?;
     match answer_sheet(sheet.as_slice()) {
         Ok(answers) => print!(rt; "{answers}"),
-        Err(fault) => {
-            let line = Line::Fault(fault);
-            println!(rt; "{line}")
-        }
+        Err(fault) => println!(rt; "{fault}"),
     }
 }

@@ -9,25 +9,14 @@ use std::test::Fail;
 fn answered(heap: Global, sheet: &[u8]) -> Result<String, Fail> {
     match answer_sheet(sheet) {
         Ok(answers) => Ok(format!(in heap; "{answers}")?),
-        Err(fault) => {
-            let line = Line::Fault(fault);
-            Ok(format!(in heap; "{line}\n")?)
-        }
+        Err(fault) => Ok(format!(in heap; "{fault}\n")?),
     }
 }
 
-fn written(heap: Global, text: &str, part: &str) -> Result<Vec<u8>, Fail> {
-    let mut bytes = Vec::new(heap);
-    for b in text.bytes() {
-        if b == b'#' {
-            for p in part.bytes() {
-                bytes.push(p)?;
-            }
-        } else {
-            bytes.push(if b == b'/' { b'\n' } else { b })?;
-        }
-    }
-    Ok(bytes)
+// The text that a row writes with / and #.
+fn written(heap: Global, text: &str, part: &str) -> Result<String, Fail> {
+    let lines = text.replace(heap, '/', "\n")?;
+    Ok(lines.as_str().replace(heap, '#', part)?)
 }
 
 fn holds(rt: &(impl Abort + AllocGlobal), row: &str, part: &str) -> Result<(), Fail> {
@@ -36,11 +25,8 @@ fn holds(rt: &(impl Abort + AllocGlobal), row: &str, part: &str) -> Result<(), F
     };
     let sheet = written(rt.alloc(), sheet, part)?;
     let expected = written(rt.alloc(), answer, "")?;
-    let all = answered(rt.alloc(), sheet.as_slice())?;
-    assert!(rt;
-        all.as_str().as_bytes() == expected.as_slice(),
-        "{all} at {row}"
-    );
+    let all = answered(rt.alloc(), sheet.as_str().as_bytes())?;
+    assert!(rt; all.as_str() == expected.as_str(), "{all} at {row}");
     Ok(())
 }
 
@@ -49,14 +35,6 @@ fn all_hold(rt: &(impl Abort + AllocGlobal), table: &str, part: &str) -> Result<
         holds(rt, row, part)?;
     }
     Ok(())
-}
-
-fn repeated(heap: Global, text: &str, times: u32) -> Result<String, Fail> {
-    let mut all = String::new(heap);
-    for _ in 0..times {
-        all.push_str(text)?;
-    }
-    Ok(all)
 }
 
 // The last rows: a key's register is not the only right one, a degree is no length, the quotient d / b is not b / d, and
@@ -88,6 +66,7 @@ field p2/ => fault 10 sheet 2 9/
 digits/ => fault 10 sheet 2 7/
 digits/claim/ => fault 10 sheet 3 13/
 tail => fault 10 sheet 1 0/
+tale => fault 10 sheet 1 0/
 tail 00 => fault 10 sheet 1 0/
 x => fault 10 sheet 1 0/
 digits/clai => fault 10 sheet 2 7/
@@ -169,7 +148,7 @@ fn faults_of_words(rt: HostRuntime) -> Result<(), Fail> {
 }
 
 // Each of these stands for # below.
-const NO_NUMBERS: &str = "00 01 65536 99999 100000 1x x1 -1 +1 1. digits tail p2 é";
+const NO_NUMBERS: &str = "00 01 65536 99999 100000 1x x1 0x -1 +1 1. digits tail p2 é";
 
 const NUMBER_DUE: &str = "digits #/ => fault 8 number 1 7/
 digits 0 #/ => fault 8 number 1 9/
@@ -193,6 +172,7 @@ const PLACES: &str = "tail 0/ => fault 11 sheet 1 5/
 digits/claim/tail 1/ => fault 11 sheet 3 18/
 digits/claim/tail/ => fault 11 sheet 3 17/
 digits/claim/tail 0 0/ => fault 11 sheet 3 20/
+digits 1/claim 1/tail 0 0/ => fault 11 sheet 3 24/
 field p2/digits/claim/tail 9/ => fault 11 sheet 4 27/
 digits/claim/digits/claim/tail 13 0/ => fault 11 sheet 5 31/
 digits/claim/digits/claim/tail 0 12/ => fault 11 sheet 5 33/
@@ -212,7 +192,7 @@ fn faults_of_places(rt: HostRuntime) -> Result<(), Fail> {
 // A sheet has at most 32,768 bytes; the length is tested before anything else.
 #[test]
 fn bytes_of_a_sheet(rt: HostRuntime) -> Result<(), Fail> {
-    let zeros = repeated(rt.alloc(), " 0", 16374)?;
+    let zeros = " 0".repeat(rt.alloc(), 16374)?;
     holds(
         &rt,
         "digits#/claim/tail 0/ => 1 refused 2 0 0/",
@@ -223,7 +203,7 @@ fn bytes_of_a_sheet(rt: HostRuntime) -> Result<(), Fail> {
         "digits#0/claim/tail 0/ => fault 10 sheet 1 0/",
         zeros.as_str(),
     )?;
-    let lines = repeated(rt.alloc(), "\n", 32768)?;
+    let lines = "\n".repeat(rt.alloc(), 32768)?;
     holds(&rt, "# => fault 9 line 1 0/", lines.as_str())?;
     holds(&rt, "#/ => fault 10 sheet 1 0/", lines.as_str())
 }
@@ -231,7 +211,7 @@ fn bytes_of_a_sheet(rt: HostRuntime) -> Result<(), Fail> {
 // A task has at most 256 digits and a claim of 256 taps.
 #[test]
 fn numbers_of_a_task(rt: HostRuntime) -> Result<(), Fail> {
-    let zeros = repeated(rt.alloc(), " 0", 256)?;
+    let zeros = " 0".repeat(rt.alloc(), 256)?;
     holds(
         &rt,
         "digits#/claim/tail 0/ => 1 only 0 0 0/",
@@ -263,9 +243,9 @@ const PAST_32: &str = "#digits/ => fault 10 sheet 65 416/
 
 #[test]
 fn tasks_of_a_sheet(rt: HostRuntime) -> Result<(), Fail> {
-    let tasks = repeated(rt.alloc(), "digits\nclaim\n", 32)?;
+    let tasks = "digits\nclaim\n".repeat(rt.alloc(), 32)?;
     all_hold(&rt, PAST_32, tasks.as_str())?;
-    let mut sheet = repeated(rt.alloc(), "digits\nclaim\n", 32)?;
+    let mut sheet = "digits\nclaim\n".repeat(rt.alloc(), 32)?;
     let mut expected = String::new(rt.alloc());
     sheet.push_str("tail")?;
     for i in 0..32u32 {
@@ -275,5 +255,22 @@ fn tasks_of_a_sheet(rt: HostRuntime) -> Result<(), Fail> {
     sheet.push_str("\n")?;
     let all = answered(rt.alloc(), sheet.as_str().as_bytes())?;
     assert!(rt; all.as_str() == expected.as_str(), "{}", all.as_str());
+    Ok(())
+}
+
+#[test]
+fn one_line_of_two(rt: HostRuntime) -> Result<(), Fail> {
+    let Ok(answers) = answer_sheet(b"digits 2\nclaim\ndigits 1\nclaim 1\ntail 0 15\n") else {
+        return Err(Fail::new("a fault"));
+    };
+    let Some(answer) = answers.as_slice().get(1) else {
+        return Err(Fail::new("fewer than two answers"));
+    };
+    let line = Line {
+        number: 2,
+        answer: *answer,
+    };
+    let text = format!(in rt.alloc(); "{line}")?;
+    assert!(rt; text.as_str() == "2 several 1 1 0");
     Ok(())
 }

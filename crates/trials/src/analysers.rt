@@ -1,10 +1,18 @@
 // Strings with their registers, and each limit beside the value on its other side.
-use crate::fields::{bits, five, refusal, residues, table, two};
+use crate::fields::{five, table, two};
+use bit_polynomials::BitPolynomials;
 use field::{Field, Refusal};
 use residues::Residues;
 use std::process::Abort;
 use std::test::Fail;
 use synthesis::{Analyser, Call, run_calls};
+
+fn feed_all<F: Field>(a: &mut Analyser<F>, digits: &[u16]) -> Result<(), Fail> {
+    for s in digits {
+        let _ = a.feed(*s)?;
+    }
+    Ok(())
+}
 
 // What `show` and `other` leave in four cells of 9.
 fn found<F: Field + Drop>(
@@ -17,9 +25,7 @@ fn found<F: Field + Drop>(
     other: [u16; 4],
 ) -> Result<(), Fail> {
     let mut a = Analyser::new(field);
-    for s in digits {
-        let _ = a.feed(*s)?;
-    }
+    feed_all(&mut a, digits)?;
     let mut cells = [9; 4];
     let shown = a.show(&mut cells)?;
     assert_eq!(rt;
@@ -60,17 +66,31 @@ fn known_digits(rt: HostRuntime) -> Result<(), Fail> {
         8,
         [4, 3, 3, 9],
     )?;
-    found(&rt, residues(251)?, &[1, 2, 4], 1, [249, 9, 9, 9], 4, NONE)?;
+    found(
+        &rt,
+        Residues::new(251)?,
+        &[1, 2, 4],
+        1,
+        [249, 9, 9, 9],
+        4,
+        NONE,
+    )?;
     found(&rt, table()?, &[1, 2, 4], 1, [2, 9, 9, 9], 4, NONE)?;
-    found(&rt, bits(256)?, &[128, 29], 1, [2, 9, 9, 9], 3, NONE)
+    found(
+        &rt,
+        BitPolynomials::new(256)?,
+        &[128, 29],
+        1,
+        [2, 9, 9, 9],
+        3,
+        NONE,
+    )
 }
 
 #[test]
 fn the_digit_expected_leaves_no_discrepancy(rt: HostRuntime) -> Result<(), Fail> {
     let mut a = Analyser::over_default_field();
-    for s in [0, 0, 1, 1] {
-        let _ = a.feed(s)?;
-    }
+    feed_all(&mut a, &[0, 0, 1, 1])?;
     let next = a.expect();
     assert_eq!(rt; next, 1);
     assert_eq!(rt; a.feed(next)?, (0, 3));
@@ -80,47 +100,43 @@ fn the_digit_expected_leaves_no_discrepancy(rt: HostRuntime) -> Result<(), Fail>
 #[test]
 fn limits_of_a_digit_and_of_a_trim(rt: HostRuntime) -> Result<(), Fail> {
     let mut a = Analyser::new(five()?);
-    assert_eq!(rt; refusal(a.feed(4)), None);
-    assert_eq!(rt; refusal(a.feed(5)), Some(Refusal::NotADigit));
-    assert_eq!(rt; refusal(a.trim(2)), Some(Refusal::PastTheDigits));
-    assert_eq!(rt; refusal(a.trim(1)), None);
+    assert_eq!(rt; a.feed(4).err(), None);
+    assert_eq!(rt; a.feed(5).err(), Some(Refusal::NotADigit));
+    assert_eq!(rt; a.trim(2).err(), Some(Refusal::PastTheDigits));
+    assert_eq!(rt; a.trim(1).err(), None);
     let mut bits = Analyser::over_default_field();
-    assert_eq!(rt; refusal(bits.feed(2)), Some(Refusal::NotADigit));
-    assert_eq!(rt; refusal(bits.feed(1)), None);
+    assert_eq!(rt; bits.feed(2).err(), Some(Refusal::NotADigit));
+    assert_eq!(rt; bits.feed(1).err(), None);
     Ok(())
 }
 
 #[test]
 fn limits_of_the_cells(rt: HostRuntime) -> Result<(), Fail> {
     let mut a = Analyser::over_default_field();
-    assert_eq!(rt; refusal(a.show(&mut [9; 0])), None);
-    assert_eq!(rt; refusal(a.other(&mut [9; 0])), None);
-    for s in [0, 0, 1, 1] {
-        let _ = a.feed(s)?;
-    }
+    assert_eq!(rt; a.show(&mut [9; 0]).err(), None);
+    assert_eq!(rt; a.other(&mut [9; 0]).err(), None);
+    feed_all(&mut a, &[0, 0, 1, 1])?;
     let mut few = [9; 2];
-    assert_eq!(rt; refusal(a.show(&mut few)), Some(Refusal::TooFewCells));
-    assert_eq!(rt; refusal(a.other(&mut few)), Some(Refusal::TooFewCells));
+    assert_eq!(rt; a.show(&mut few).err(), Some(Refusal::TooFewCells));
+    assert_eq!(rt; a.other(&mut few).err(), Some(Refusal::TooFewCells));
     assert_eq!(rt; few, [9; 2]);
-    assert_eq!(rt; refusal(a.show(&mut [9; 3])), None);
-    assert_eq!(rt; refusal(a.other(&mut [9; 3])), None);
+    assert_eq!(rt; a.show(&mut [9; 3]).err(), None);
+    assert_eq!(rt; a.other(&mut [9; 3]).err(), None);
     Ok(())
 }
 
 #[test]
 fn limit_of_the_digits(rt: HostRuntime) -> Result<(), Fail> {
     let mut a = Analyser::over_default_field();
-    for _ in 0..255 {
-        let _ = a.feed(1)?;
-    }
-    assert_eq!(rt; refusal(a.feed(1)), None);
-    assert_eq!(rt; refusal(a.feed(1)), Some(Refusal::TooManyDigits));
-    assert_eq!(rt; refusal(a.feed(2)), Some(Refusal::TooManyDigits));
+    feed_all(&mut a, &[1; 255])?;
+    assert_eq!(rt; a.feed(1).err(), None);
+    assert_eq!(rt; a.feed(1).err(), Some(Refusal::TooManyDigits));
+    assert_eq!(rt; a.feed(2).err(), Some(Refusal::TooManyDigits));
     assert_eq!(rt; a.expect(), 1);
-    assert_eq!(rt; refusal(a.trim(257)), Some(Refusal::PastTheDigits));
-    assert_eq!(rt; refusal(a.trim(256)), None);
-    assert_eq!(rt; refusal(a.trim(255)), None);
-    assert_eq!(rt; refusal(a.feed(1)), None);
+    assert_eq!(rt; a.trim(257).err(), Some(Refusal::PastTheDigits));
+    assert_eq!(rt; a.trim(256).err(), None);
+    assert_eq!(rt; a.trim(255).err(), None);
+    assert_eq!(rt; a.feed(1).err(), None);
     Ok(())
 }
 
@@ -166,8 +182,7 @@ fn four_bits_have_two_registers(rt: HostRuntime) -> Result<(), Fail> {
 #[test]
 fn residues_modulo_5_have_one(rt: HostRuntime) -> Result<(), Fail> {
     let mut a = Analyser::new(Residues::new(5)?);
-    let _ = a.feed(1)?;
-    let _ = a.feed(3)?;
+    feed_all(&mut a, &[1, 3])?;
     let mut cells = [9; 2];
     let shown = a.show(&mut cells)?;
     assert_eq!(rt; (shown.length, shown.digits, shown.count), (1, 2, 3));
@@ -183,9 +198,7 @@ fn residues_modulo_5_have_one(rt: HostRuntime) -> Result<(), Fail> {
 #[test]
 fn keeps_256_digits(rt: HostRuntime) -> Result<(), Fail> {
     let mut a = Analyser::over_default_field();
-    for _ in 0..256 {
-        let _ = a.feed(1)?;
-    }
+    feed_all(&mut a, &[1; 256])?;
     assert!(rt; a.feed(1).is_err());
     a.trim(255)?;
     assert!(rt; a.feed(1).is_ok());

@@ -5,7 +5,20 @@ use marking::{Mark, Verdict, better, mark_claim};
 use std::process::Abort;
 use std::test::Fail;
 
-fn marked<F: Field>(rt: &impl Abort, field: &F, digits: &[u16], claim: &[u16], expected: Mark) {
+fn marked<F: Field>(
+    rt: &impl Abort,
+    field: &F,
+    digits: &[u16],
+    claim: &[u16],
+    verdict: Verdict,
+    length: usize,
+    count: u32,
+) {
+    let expected = Mark {
+        verdict,
+        length,
+        count,
+    };
     assert_eq!(rt;
         mark_claim(field, digits, claim, &mut [7; 15]),
         Ok(expected)
@@ -17,79 +30,16 @@ const ALTERNATING: [u16; 4] = [0, 0, 1, 1];
 // The only register with a key's taps is not the only right answer, and the degree is not the length.
 #[test]
 fn verdicts(rt: HostRuntime) -> Result<(), Fail> {
-    let mark = Mark {
-        verdict: Verdict::Several,
-        length: 3,
-        count: 9,
-    };
-    marked(&rt, &two()?, &ALTERNATING, &[1, 0, 1], mark);
-    marked(&rt, &two()?, &ALTERNATING, &[1, 0, 0], mark);
-    marked(
-        &rt,
-        &two()?,
-        &ALTERNATING,
-        &[1],
-        Mark {
-            verdict: Verdict::Wrong(3),
-            length: 3,
-            count: 9,
-        },
-    );
-    marked(
-        &rt,
-        &two()?,
-        &ALTERNATING,
-        &[0, 0, 0, 0],
-        Mark {
-            verdict: Verdict::Long(1),
-            length: 3,
-            count: 9,
-        },
-    );
-    marked(
-        &rt,
-        &five()?,
-        &[1, 3],
-        &[2],
-        Mark {
-            verdict: Verdict::Only,
-            length: 1,
-            count: 3,
-        },
-    );
-    marked(
-        &rt,
-        &five()?,
-        &[1, 3],
-        &[1],
-        Mark {
-            verdict: Verdict::Wrong(2),
-            length: 1,
-            count: 3,
-        },
-    );
-    marked(
-        &rt,
-        &table()?,
-        &[1, 2, 4],
-        &[2],
-        Mark {
-            verdict: Verdict::Only,
-            length: 1,
-            count: 4,
-        },
-    );
-    marked(
-        &rt,
-        &two()?,
-        &[],
-        &[],
-        Mark {
-            verdict: Verdict::Only,
-            length: 0,
-            count: 0,
-        },
-    );
+    let bits = two()?;
+    let several = Verdict::Several;
+    marked(&rt, &bits, &ALTERNATING, &[1, 0, 1], several, 3, 9);
+    marked(&rt, &bits, &ALTERNATING, &[1, 0, 0], several, 3, 9);
+    marked(&rt, &bits, &ALTERNATING, &[1], Verdict::Wrong(3), 3, 9);
+    marked(&rt, &bits, &ALTERNATING, &[0; 4], Verdict::Long(1), 3, 9);
+    marked(&rt, &five()?, &[1, 3], &[2], Verdict::Only, 1, 3);
+    marked(&rt, &five()?, &[1, 3], &[1], Verdict::Wrong(2), 1, 3);
+    marked(&rt, &table()?, &[1, 2, 4], &[2], Verdict::Only, 1, 4);
+    marked(&rt, &bits, &[], &[], Verdict::Only, 0, 0);
     Ok(())
 }
 
@@ -133,13 +83,10 @@ fn refusals_in_their_order(rt: HostRuntime) -> Result<(), Fail> {
 }
 
 fn counts(rt: &impl Abort, first: &[u16], second: &[u16], expected: &[u16]) -> Result<(), Fail> {
-    match better(&two()?, &ALTERNATING, first, second, &mut [7; 15]) {
-        Ok(taps) => {
-            assert!(rt; taps == expected);
-            Ok(())
-        },
-        Err(_) => Err(Fail::new("refused")),
-    }
+    let mut scratch = [7; 15];
+    let taps = better(&two()?, &ALTERNATING, first, second, &mut scratch)?;
+    assert!(rt; taps == expected);
+    Ok(())
 }
 
 #[test]
@@ -154,14 +101,14 @@ fn the_claim_that_counts(rt: HostRuntime) -> Result<(), Fail> {
 #[test]
 fn a_refused_claim_leaves_the_scratch(rt: HostRuntime) -> Result<(), Fail> {
     let mut scratch = [7; 15];
-    match better(&two()?, &ALTERNATING, &[1], &[2], &mut scratch) {
-        Ok(_) => return Err(Fail::new("accepted")),
-        Err(refusal) => assert_eq!(rt; refusal, Refusal::NotADigit),
-    }
-    match better(&two()?, &ALTERNATING, &[1], &[2; 257], &mut scratch[0..14]) {
-        Ok(_) => return Err(Fail::new("accepted")),
-        Err(refusal) => assert_eq!(rt; refusal, Refusal::TooFewCells),
-    }
+    assert_eq!(rt;
+        better(&two()?, &ALTERNATING, &[1], &[2], &mut scratch).err(),
+        Some(Refusal::NotADigit)
+    );
+    assert_eq!(rt;
+        better(&two()?, &ALTERNATING, &[1], &[2; 257], &mut scratch[0..14]).err(),
+        Some(Refusal::TooFewCells)
+    );
     assert!(rt; scratch == [7; 15]);
     Ok(())
 }

@@ -6,10 +6,8 @@ use std::test::Fail;
 
 fn built(taps: &[u16]) -> Result<Register, Fail> {
     let mut register = Register::new();
-    match register.build(taps) {
-        Ok(()) => Ok(register),
-        Err(_) => Err(Fail::new("not built")),
-    }
+    register.build(taps)?;
+    Ok(register)
 }
 
 #[test]

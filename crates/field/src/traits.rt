@@ -29,7 +29,7 @@ pub trait Field {
     fn multiply(&self, a: u16, b: u16) -> u16
         ensures { result ≡ product_of (means self.now) a b };
 
-    // Each kind tests for 0 itself: to share the test, its inverse of a digit other than 0 would have to be a member too.
+    // Each kind tests for 0 itself: a shared test would need the inverse of a digit other than 0 as one more member.
     fn invert(&self, a: u16) -> Option<u16>
         ensures { made self.now → Inverts (means self.now) a result };
 

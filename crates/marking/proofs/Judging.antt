@@ -9,7 +9,7 @@ use Rattle.massey.specs.Theorems.{register_of, Shortest, ShortestLength}
 use Rattle.massey.proofs.Registers.{register_length, breaks_not}
 use Rattle.massey.proofs.Shortest.{shortest_from, shortest_length, another_shortest}
 use Rattle.massey.proofs.Strings.{shortest}
-use Rattle.marking.specs.Marks.{Tested, Judged, Decided, Reached, beats, Better}
+use Rattle.marking.specs.Marks.{Tested, Judged, Decided, DecidedBy, beats, Better}
 use Rattle.marking.specs.declared.verdict.Verdict.{Verdict}
 use Rattle.marking.specs.declared.verdict.Verdict.TheVariants.{Wrong, Long, Only, Several}
 
@@ -30,12 +30,12 @@ module _ (m : Meaning) (laws : FieldLaws m) (w claim : List ℕ) (dw : Digits m 
       (x, (another_shortest m laws w dw claim x).1 (omega arith))
 
 -- so a claim that was tested is judged
-pub judged : (m : Meaning) (laws : FieldLaws m) (w claim : List ℕ) (l : ℕ) (broken : Option ℕ) (v : Verdict) → Reached (length claim) l (length w) broken v → Tested m w claim broken → l ≡ (steps m w).l → Judged m w claim v
+pub judged : (m : Meaning) (laws : FieldLaws m) (w claim : List ℕ) (l : ℕ) (broken : Option ℕ) (v : Verdict) → DecidedBy (length claim) l (length w) broken v → Tested m w claim broken → l ≡ (steps m w).l → Judged m w claim v
 judged m laws w claim l None v d t e = decided m laws w claim t.given t.claimed l e t.place v d.says
 judged m laws w claim l (Some j) v q t e = subst (Judged m w claim) (sym q.says) t.place
 
 -- and of two the one that counts is told by their verdicts
-pub better : (m : Meaning) (laws : FieldLaws m) (w first second taps : List ℕ) (l : ℕ) (broken other : Option ℕ) (v u : Verdict) → Reached (length first) l (length w) broken v → Reached (length second) l (length w) other u
+pub better : (m : Meaning) (laws : FieldLaws m) (w first second taps : List ℕ) (l : ℕ) (broken other : Option ℕ) (v u : Verdict) → DecidedBy (length first) l (length w) broken v → DecidedBy (length second) l (length w) other u
     → Tested m w first broken → Tested m w second other → l ≡ (steps m w).l → taps ≡ cond (beats u v) second first → Better m w first second taps
 better m laws w first second taps l broken other v u d b t s e chosen = record {
   first_verdict = v;

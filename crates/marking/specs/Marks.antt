@@ -4,7 +4,7 @@
 --                                  longer than a shortest register; it is a shortest one and no other of its length generates w, or another does
 --   Marked m w claim k             the mark k has such a verdict, the length of a shortest register, and the count of Massey's steps over w
 --   Decided ..                     the verdict on a claim that generates w, by lengths
---   Reached ..                     the verdict on a claim, by that where it generates w, and otherwise by the place that it breaks
+--   DecidedBy ..                   the verdict on a claim, by that where it generates w, and otherwise by the place that it breaks
 --   OneVerdict                     no claim has two verdicts
 --   claim_refusal m w claim        why a claim is refused: too many taps, too many digits, a tap or a digit that is none
 --   mark_refusal m w claim cells   why marking in that many cells is refused: that, or too few cells
@@ -48,7 +48,7 @@ Decided claimed shortest digits Only = (claimed ≤ shortest) × (2 * shortest �
 Decided claimed shortest digits Several = (claimed ≤ shortest) × (digits < 2 * shortest)
 
 -- the verdict on a claim that breaks the rule first at that place, or nowhere
-pub record Reached (claimed shortest digits : ℕ) (broken : Option ℕ) (v : Verdict) : Type 0 where
+pub record DecidedBy (claimed shortest digits : ℕ) (broken : Option ℕ) (v : Verdict) : Type 0 where
   pub says : MatchOption broken (Decided claimed shortest digits v) (λ j. v ≡ Wrong j)
 
 -- no claim has two verdicts

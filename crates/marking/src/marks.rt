@@ -3,7 +3,7 @@ ghost use Rattle.std.specs.Prelude.{◌≡◌, length, Ok, Err};
 ghost use Rattle.field.specs.Meaning.{Meaning};
 ghost use Rattle.field.specs.Refusals.{refusal_of};
 ghost use Rattle.synthesis.specs.Scratch.{scratch_cells_for, cleared};
-ghost use Rattle.marking.specs.Marks.{Tested, Marked, Reached, OneVerdict, claim_refusal, mark_refusal};
+ghost use Rattle.marking.specs.Marks.{Tested, Marked, DecidedBy, OneVerdict, claim_refusal, mark_refusal};
 
 use crate::verdict::{Mark, Verdict};
 use field::{Field, Refusal};
@@ -17,7 +17,7 @@ pub(crate) fn judge(
     broken: Option<usize>,
     shortest: Shortest,
 ) -> Verdict
-    ensures { Reached (length claim.now) shortest.length (length digits.now) broken result }
+    ensures { DecidedBy (length claim.now) shortest.length (length digits.now) broken result }
 {
     match broken {
         Some(place) => Verdict::Wrong(place),

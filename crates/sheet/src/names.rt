@@ -37,7 +37,7 @@ impl Default for FieldName {
     }
 }
 
-// Keywords and field names are two types: one table of both could not be searched, and two are longer than two matches.
+// A match each: the answers are of two types, so one table cannot hold both, and two tables with their search are longer.
 pub(crate) fn keyword_of(word: &[u8]) -> Option<Keyword>
     ensures { result ≡ keyword_for word.now }
 {

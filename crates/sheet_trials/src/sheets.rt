@@ -260,9 +260,7 @@ fn tasks_of_a_sheet(rt: HostRuntime) -> Result<(), Fail> {
 
 #[test]
 fn one_line_of_two(rt: HostRuntime) -> Result<(), Fail> {
-    let Ok(answers) = answer_sheet(b"digits 2\nclaim\ndigits 1\nclaim 1\ntail 0 15\n") else {
-        return Err(Fail::new("a fault"));
-    };
+    let answers = answer_sheet(b"digits 2\nclaim\ndigits 1\nclaim 1\ntail 0 15\n")?;
     let Some(answer) = answers.as_slice().get(1) else {
         return Err(Fail::new("fewer than two answers"));
     };

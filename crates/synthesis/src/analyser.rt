@@ -16,7 +16,7 @@ use crate::state::{ROW_CELLS, State};
 use field::{Field, Refusal, is_digit};
 
 /// Reads digits over a field one by one, and has the shortest register for those that it keeps.
-// That a call leaves the field as it is stands at each: no type can say it of what is lent for writing.
+// That a call leaves the field as it is, and what its refusal leaves, stands at each: no type can say it of what is lent for writing.
 #[derive(Drop)]
 pub struct Analyser<F: Field> {
     field: F,
@@ -54,7 +54,7 @@ impl<F: Field> Analyser<F> {
         Ok((discrepancy, self.state.progress.length as u16))
     }
 
-    // Takes the digit s, and answers the discrepancy there. Apart from `feed`, so that what `feed` tests is proved by itself.
+    // Takes the digit s, and answers the discrepancy there. Apart from `feed`, so that its tests are proved apart from the step.
     fn push(&mut self, s: u16) -> u16
         requires room { self.old.state.progress.taken < 256 }
         requires digit { s < (F.means self.old.field).order }

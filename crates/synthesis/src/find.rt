@@ -34,7 +34,7 @@ pub fn has_room(digits: usize, cells: usize) -> bool
     digits < cells / 3
 }
 
-// Runs the steps in the first cells of the scratch, which end as 0.
+// Runs the steps in the first cells of the scratch, which end as 0. The string is the caller's slice, so its size stands here too.
 fn find_in<F: Field>(field: &F, digits: &[u16], scratch: &mut [u16]) -> Shortest
     requires few { length digits.now ≤ 256 }
     requires room { scratch_cells_for (length digits.now) ≤ length scratch.old }

@@ -20,7 +20,7 @@ pub struct Progress {
 }
 
 impl Progress {
-    /// That of no digits.
+    /// The progress of no digits.
     pub fn new() -> Progress
         ensures length { result.length ≡ 0 }
         ensures last { result.last ≡ 1 }

@@ -203,6 +203,12 @@ fn bytes_of_a_sheet(rt: HostRuntime) -> Result<(), Fail> {
         "digits#0/claim/tail 0/ => fault 10 sheet 1 0/",
         zeros.as_str(),
     )?;
+    let zeros = " 0".repeat(rt.alloc(), 16372)?;
+    holds(
+        &rt,
+        "digits 10#/claim/tail 0/x => fault 10 sheet 4 32767/",
+        zeros.as_str(),
+    )?;
     let lines = "\n".repeat(rt.alloc(), 32768)?;
     holds(&rt, "# => fault 9 line 1 0/", lines.as_str())?;
     holds(&rt, "#/ => fault 10 sheet 1 0/", lines.as_str())
@@ -234,25 +240,71 @@ fn numbers_of_a_task(rt: HostRuntime) -> Result<(), Fail> {
     )
 }
 
-const PAST_32: &str = "#digits/ => fault 10 sheet 65 416/
+// Behind 31 tasks: the last places where a fault of a task can stand.
+const LAST_TASK: &str = "#field/ => fault 9 line 63 408/
+#field / => fault 9 line 63 409/
+#field b8/ => fault 9 line 63 409/
+#field p2 p3/ => fault 9 line 63 412/
+#field p2/field p2/ => fault 10 sheet 64 412/
+#field p2/digits  1/ => fault 9 line 64 419/
+#field p2/digits x/ => fault 8 number 64 419/
+#digits/digits/ => fault 10 sheet 64 410/
+#digits/claim => fault 10 sheet 64 410/
+#digits/claim  1/ => fault 9 line 64 416/
+#digits/claim 0 x/ => fault 8 number 64 418/";
+
+// Behind 32 tasks.
+const PAST_32: &str = "# => fault 10 sheet 65 416/
+#tail => fault 10 sheet 65 416/
+#digits/ => fault 10 sheet 65 416/
 #field p3/ => fault 10 sheet 65 416/
 #field/ => fault 10 sheet 65 416/
 #claim/ => fault 10 sheet 65 416/
 #task/ => fault 9 line 65 416/
 #tail/ => fault 11 sheet 65 420/";
 
+// Behind 32 tasks and the first 31 places of the tail.
+const LAST_PLACE: &str = "# / => fault 9 line 65 536/
+# x/ => fault 8 number 65 536/
+# 404/ => fault 11 sheet 65 536/
+#/ => fault 11 sheet 65 535/";
+
+// Behind 32 tasks and all places of the tail.
+const PAST_THE_PLACES: &str = "# => fault 10 sheet 65 416/
+# / => fault 9 line 65 540/
+# 00/ => fault 8 number 65 540/
+# 0/ => fault 11 sheet 65 540/
+#/x => fault 10 sheet 66 540/
+#// => fault 10 sheet 66 540/";
+
+// 32 tasks with no numbers, and the tail as far as its first places.
+fn with_places(heap: Global, places: u32) -> Result<String, Fail> {
+    let mut sheet = "digits\nclaim\n".repeat(heap, 32)?;
+    sheet.push_str("tail")?;
+    for i in 0..places {
+        sheet.push_str(format!(in heap; " {}", i.saturating_mul(13))?.as_str())?;
+    }
+    Ok(sheet)
+}
+
 #[test]
-fn tasks_of_a_sheet(rt: HostRuntime) -> Result<(), Fail> {
+fn faults_at_the_end_of_a_sheet(rt: HostRuntime) -> Result<(), Fail> {
+    let tasks = "digits\nclaim\n".repeat(rt.alloc(), 31)?;
+    all_hold(&rt, LAST_TASK, tasks.as_str())?;
     let tasks = "digits\nclaim\n".repeat(rt.alloc(), 32)?;
     all_hold(&rt, PAST_32, tasks.as_str())?;
-    let mut sheet = "digits\nclaim\n".repeat(rt.alloc(), 32)?;
+    all_hold(&rt, LAST_PLACE, with_places(rt.alloc(), 31)?.as_str())?;
+    all_hold(&rt, PAST_THE_PLACES, with_places(rt.alloc(), 32)?.as_str())
+}
+
+#[test]
+fn tasks_of_a_sheet(rt: HostRuntime) -> Result<(), Fail> {
+    let mut sheet = with_places(rt.alloc(), 32)?;
+    sheet.push_str("\n")?;
     let mut expected = String::new(rt.alloc());
-    sheet.push_str("tail")?;
     for i in 0..32u32 {
-        sheet.push_str(format!(in rt.alloc(); " {}", i * 13)?.as_str())?;
         expected.push_str(format!(in rt.alloc(); "{} only 0 0 0\n", i + 1)?.as_str())?;
     }
-    sheet.push_str("\n")?;
     let all = answered(rt.alloc(), sheet.as_str().as_bytes())?;
     assert!(rt; all.as_str() == expected.as_str(), "{}", all.as_str());
     Ok(())

@@ -2,6 +2,8 @@
 --   AnsweredOver m w claim a   a is the answer to a claim on the string w: its mark, or why marking refuses it
 --   Answered t a               a is the answer to the task t
 --   AllAnswered ts list        the answers, one for each task, in their order
+--   GoodSheet sheet list       the sheet has the form with tasks of which these are the answers
+--   FaultySheet sheet f        f is the fault where the reading of the sheet stops, which has no form
 --   SheetAnswered sheet r      the answers to the tasks of a sheet that has the form, or the first fault of one that has not
 --   OneFault sheet f           f is what is wrong with the sheet, and nothing else is
 use Rattle.std.specs.Prelude.{◌≡◌, ℕ, List, [], ◌∷◌, Some, None, Ok, Err, Result}

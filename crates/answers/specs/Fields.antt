@@ -1,4 +1,5 @@
 -- What the fields mean that a sheet names. Assumes nothing.
+--   meaning_of f   what the field with the name f means
 use Rattle.field.specs.Meaning.{Meaning}
 use Rattle.residues.specs.Modulo.{modulo}
 use Rattle.bit_polynomials.specs.Polynomials.{field_of}

@@ -1,7 +1,7 @@
 -- The laws, by two tests of the modulus. Assumes nothing.
 --   each n f    the test f passes at each number below n
 --   neutral     1 times a is a
---   inverted    a is 0, or the product of its squares is its inverse
+--   inverted    a is 0, or the product of a to the 2, the 4, .. and the 2 ^ (k - 1) is its inverse
 --   Sound k m   m has the degree k, and each digit passes the two tests
 use Rattle.std.specs.Prelude.{◌≡◌, ℕ, zero, suc, ◌-◌, ◌*◌, ◌^◌, ◌<◌, ◌≤◌, Bool, true, ◌&&◌, ◌||◌, ◌==◌}
 use Rattle.std.proofs.Common.{sym, ap, ◌∙◌, ⊎_elim, arith, pow_mono}

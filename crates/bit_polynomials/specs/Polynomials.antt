@@ -3,9 +3,9 @@
 --   times k m n a b   a times the n lowest terms of b: the constant one gives a, the next one x times a, and so on
 --   product k m a b   a times b, modulo m
 --   polynomials k m   the polynomials below degree k, whose sum is the exclusive or, and whose product is that modulo m
---   listed q          a field of q digits is made
---   degree_of q       the degree of its modulus
---   modulus_of q      its modulus: x^2 + x + 1, x^4 + x + 1 or x^8 + x^4 + x^3 + x^2 + 1
+--   listed q          the kind has a field of q digits
+--   degree_of q       the degree of its modulus, for a listed q
+--   modulus_of q      its modulus, for a listed q: x^2 + x + 1, x^4 + x + 1 or x^8 + x^4 + x^3 + x^2 + 1
 --   field_of q        the field
 use Rattle.std.specs.Prelude.{ℕ, zero, suc, ◌*◌, ◌/◌, ◌%◌, ◌^◌, Bool, cond, ◌||◌, ◌==◌, bit_xor}
 use Rattle.field.specs.Meaning.{Meaning}

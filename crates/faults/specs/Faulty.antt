@@ -4,6 +4,7 @@
 --   NoPlace w ps a e          the word w is no number, or it is not the first of the places ps
 --   BadName ws said a e       the words of a `field` line are not one name
 --   BadNumber ws said a e     the words begin with numbers, and the next is none
+--   BadPlaceAt ps ws said a e a word that is not the next place stands behind the first of the places ps
 --   BadPlace ps ws said a e   the words begin with the first of the places ps, and then one is not the next place, or too many or too few
 --   Breaks k ps ws said a e   one of these, for a line with the keyword k
 --   Faulty sheet ts e         the sheet is in order up to the place of e, which stands behind the tasks ts, and there breaks the rule that e tells

@@ -1,5 +1,6 @@
 -- The faults of a word. Assumes nothing.
---   bad_word a, no_number a   the faults of a line's word at a
+--   bad_word a    the fault of a word at a that its line cannot have
+--   no_number a   that of a word at a that is no number where one is due
 use Rattle.sheet.specs.declared.fault.At.{At}
 use Rattle.sheet.specs.declared.fault.LineFault.TheVariants.{BadWord, Number}
 use Rattle.sheet.specs.declared.fault.SheetFault.{SheetFault}

@@ -1,5 +1,5 @@
 -- What the making of a field answers. Assumes nothing.
---   Makes known m means r   the field that means m, which has the laws, where its size is known; else that there is no such field
+--   Makes known m means r   where `known`, since the kind has that size, a field that means m, which has the laws; else that there is no such field
 use Rattle.std.specs.Prelude.{◌≡◌, Bool, true, false, Ok, Err, Result}
 use Rattle.field.specs.declared.refusal.Refusal.{Refusal}
 use Rattle.field.specs.declared.refusal.Refusal.TheVariants.{NoSuchField}

@@ -9,7 +9,7 @@
 --   IsOther m w st         other_of generates w, and first differs from register_of at tap j
 --   Expected m w x         with x after w, and with no other digit, the register of the steps over w leaves no discrepancy
 --   CountWithin l k n      n multiplications are within the bounds for k digits and l taps
---   InBounds m k st        what holds of the cells of a state with k digits taken
+--   InBounds m k st        with k digits taken the cells of a state are digits, its rows begin with 1, and end where its length and shift say
 use Rattle.std.specs.Prelude.{◌≡◌, ℕ, suc, ◌+◌, ◌-◌, ◌*◌, ◌<◌, ◌≤◌, ◌↔◌, List, [], ◌∷◌, ◌++◌, map, length}
 use Rattle.std.specs.List.{range_with_len}
 use Rattle.field.specs.Laws.{FieldLaws}
@@ -92,10 +92,11 @@ AnotherRegister = (m : Meaning) → FieldLaws m → (w : List ℕ) → Digits m 
 abbrev pub AnotherShortest : Type 0
 AnotherShortest = (m : Meaning) → FieldLaws m → (w : List ℕ) → Digits m w → (taps : List ℕ) → Shortest m w taps → Another m w taps ↔ (length w < 2 * length taps)
 
--- and then this is one
+-- where twice the length passes the string's, other_of is another
 abbrev pub OtherRegister : Type 0
 OtherRegister = (m : Meaning) → FieldLaws m → (w : List ℕ) → Digits m w → length w < 2 * (steps m w).l → IsOther m w (steps m w)
 
+-- of all digits the expected one alone continues the string with no discrepancy
 abbrev pub ExpectedDigit : Type 0
 ExpectedDigit = (m : Meaning) → FieldLaws m → (w : List ℕ) → Digits m w → Expected m w (expected m w)
 
@@ -103,5 +104,6 @@ ExpectedDigit = (m : Meaning) → FieldLaws m → (w : List ℕ) → Digits m w 
 abbrev pub CountBounds : Type 0
 CountBounds = (m : Meaning) (w : List ℕ) → CountWithin (steps m w).l (length w) (steps m w).count
 
+-- the state that the steps end with is in its bounds
 abbrev pub StateBounds : Type 0
 StateBounds = (m : Meaning) → FieldLaws m → (w : List ℕ) → Digits m w → InBounds m (length w) (steps m w)

@@ -2,9 +2,9 @@
 --   Stopped                     the tasks read before the first fault, and that fault
 --   Outcome                     the tasks of the sheet, or where reading stopped
 --   Due                         what is due: a task or the tail, the digits of a task, its claim
---   place_due_of a w p          the word w at a is the place p
---   places_after l b ps ws      the words ws are the places ps; the last word ended at the byte b of the line l
---   ended l b ls                the lines ls are no byte at all
+--   place_due_of a w p          the word w at a is the place p, or the fault
+--   places_after l b ps ws      the words ws are the places ps, or the fault; the last word ended at the byte b of the line l
+--   ended l b ls                nothing follows, or the fault at the first byte of the lines ls
 --   turn .. k stop ws           what a line with the keyword k and the words ws leads to; its first word ends at the byte stop
 --   lines_after l b ls ts due   what is read from the lines ls behind the tasks ts; the first of them is line l and begins at the byte b
 --   read_from sheet l b         the same of the sheet from the byte b on

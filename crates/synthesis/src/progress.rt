@@ -5,7 +5,7 @@ ghost use Rattle.std.specs.Prelude.{◌≡◌, ◌+◌, ◌*◌, ◌≤◌};
 pub const MOST_DIGITS: usize = 256;
 
 /// What the steps keep beside their rows: the register's length l, the discrepancy b at its last change, the shift j
-/// since then, the number k of digits taken, and the count. The bounds need no field.
+/// since then, the number k of digits taken, and the count. The bounds hold over any field.
 #[derive(Clone, Copy)]
 pub struct Progress {
     pub length: usize,

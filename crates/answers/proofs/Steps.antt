@@ -1,6 +1,10 @@
 -- A sheet, task by task. Assumes nothing.
+--   SoFar sheet r ps list   the tasks read so far have the places ps and the answers of the list, and the reading goes on from r
 use Rattle.std.proofs.Common.{◌≡◌, ℕ, ◌+◌, List, [], ◌∷◌, ◌++◌, length, sym, refl, ap, ◌∙◌, subst, length-append}
-use Rattle.sheet.specs.Form.{Entry}
+use Rattle.sheet.specs.Form.{Entry, places}
+use Rattle.sheet.specs.Lines.{reading}
+use Rattle.sheet.specs.Exact.{ReadsExactly}
+use Rattle.sheet.specs.Views.{remaining}
 use Rattle.sheet.specs.Faults.{fault_of}
 use Rattle.sheet.specs.Calls.{Opens, NextTask, NoTask, Refuses}
 use Rattle.faults.specs.Exact.{FaultsExactly}
@@ -8,7 +12,13 @@ use Rattle.sheet.specs.declared.fault.Fault.{Fault}
 use Rattle.sheet.specs.declared.fault.SheetFault.{SheetFault}
 use Rattle.sheet.specs.declared.reader.Reader.{Reader}
 use Rattle.answers.specs.Answers.{Answer, Answered, AllAnswered, GoodSheet, FaultySheet, OneFault}
-use Rattle.answers.specs.Reading.{SoFar}
+
+pub record SoFar (sheet : List ℕ) (r : Reader) (ps : List ℕ) (list : List Answer) : Type 0 where
+  pub tasks : List Entry
+  pub exact : ReadsExactly sheet
+  pub rest : reading sheet ≡ remaining r tasks
+  pub places_are : places tasks ≡ ps
+  pub answered : AllAnswered tasks list
 
 pub push_long : {X : Type 0} (xs ys : List X) (x : X) → ys ≡ xs ++ x ∷ [] → length ys ≡ length xs + 1
 push_long xs ys x e = ap length e ∙ length-append xs (x ∷ [])

@@ -1,6 +1,6 @@
 use Rattle.std.proofs.Common.{◌≡◌, length}
 use Rattle.sheet.specs.Views.{noted, unread}
-use Rattle.answers.specs.Reading.{SoFar}
+use Rattle.answers.proofs.Steps.{SoFar}
 use Rattle.answers.proofs.sheets.answer_tasks.Given as goal
 
 abbrev pub invariant-loop-task : goal.invariant-loop-task

@@ -15,10 +15,10 @@ use Rattle.massey.proofs.Strings.{shortest, other}
 use Rattle.synthesis.specs.Answers.{other_answer, OtherWritten, Promised, Rival}
 use Rattle.synthesis.specs.Kept.{kept}
 use Rattle.synthesis.specs.Runs.{Reported, OtherFound, Found}
-use Rattle.synthesis.specs.Sound.{Tracked, overwritten}
+use Rattle.synthesis.specs.Sound.{Sound, overwritten}
 use Rattle.synthesis.specs.declared.report.Report.{Report}
 use Rattle.synthesis.specs.declared.state.State.{State}
-use Rattle.synthesis.proofs.Soundness.{length_is, shift_is}
+use Rattle.synthesis.proofs.Soundness.{sound_laws, sound_digits, length_is, shift_is}
 
 -- the front and the rest of cells that were written
 overwritten_front : (taps cells cells' : List ℕ) (n : ℕ) → length taps ≡ n → cells' ≡ overwritten taps cells → take n cells' ≡ taps
@@ -99,11 +99,20 @@ module _ (m : Meaning) (laws : FieldLaws m) (w : List ℕ) (dw : Digits m w) whe
           (other_found others others' t.other r.answer r.other (dec_le (2 * S.l) (length w)));
     }
 
-module _ (m : Meaning) (laws : FieldLaws m) (st : State) (x : Tracked m st) where
+module _ (m : Meaning) (st : State) (x : Sound m st) where
   pub sound_promised : Promised m (kept st) (register_of (steps m (kept st))) (steps m (kept st)).count
-  sound_promised = promised m laws (kept st) x.digits
+  sound_promised = promised m (sound_laws m st x) (kept st) (sound_digits m st x)
 
   pub sound_rival : st.progress.taken < 2 * st.progress.length → Rival m (kept st) (register_of (steps m (kept st))) st.progress.shift (other_of m (steps m (kept st)))
   sound_rival h =
       subst (λ j. Rival m (kept st) (register_of (steps m (kept st))) j (other_of m (steps m (kept st)))) (sym (shift_is m st x))
-      (rival m laws (kept st) x.digits (other m laws (kept st) x.digits (omega (arith, st.long, length_is m st x))))
+      (rival m laws (kept st) digits (other m laws (kept st) digits (omega (arith, st.long, length_is m st x))))
+    where
+      laws : FieldLaws m
+      laws = sound_laws m st x
+
+      digits : Digits m (kept st)
+      digits = sound_digits m st x
+
+  pub sound_found : (t : Report) (cells cells' others others' : List ℕ) → Reported m (kept st) t cells cells' others others' → Found m (kept st) t cells cells' others others'
+  sound_found t cells cells' others others' h = found m (sound_laws m st x) (kept st) (sound_digits m st x) t cells cells' others others' h

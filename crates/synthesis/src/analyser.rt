@@ -1,5 +1,5 @@
 // The analyser and its calls.
-ghost use Rattle.std.specs.Prelude.{◌≡◌, ◌<◌, ◌≤◌, [], ◌∷◌, ◌++◌, length, take, IfOk, OnErr, IfSome, IfNone, MatchResult};
+ghost use Rattle.std.specs.Prelude.{◌≡◌, ◌<◌, [], ◌∷◌, ◌++◌, length, IfOk, OnErr, IfSome, IfNone, MatchResult};
 ghost use Rattle.field.specs.Meaning.{Meaning};
 ghost use Rattle.field.specs.Refusals.{refusal_of};
 ghost use Rattle.massey.specs.Steps.{steps};
@@ -7,7 +7,7 @@ ghost use Rattle.massey.specs.Theorems.{register_of, other_of, expected as expec
 ghost use Rattle.synthesis.specs.Answers.{ShownOf, other_taps_of, other_answer, OtherWritten, Promised, Rival};
 ghost use Rattle.synthesis.specs.Kept.{kept, fed, feed_refusal, trimmed, trim_refusal, room_refusal};
 ghost use Rattle.synthesis.specs.Known.{Known};
-ghost use Rattle.synthesis.specs.Sound.{Tracked, leaves, overwritten};
+ghost use Rattle.synthesis.specs.Sound.{Sound, leaves, overwritten};
 
 use crate::progress::MOST_DIGITS;
 use crate::rows::Rows;
@@ -17,11 +17,11 @@ use field::{Field, Refusal, is_digit};
 
 /// Reads digits over a field one by one, and has the shortest register for those that it keeps.
 // That a call leaves the field as it is, and what its refusal leaves, stands at each: no type can say it of what is lent for writing.
+// `Sound` stands at each too: said by the type, it would ask a bound of F.
 #[derive(Drop)]
-pub struct Analyser<F: Field> {
+pub struct Analyser<F> {
     field: F,
     state: State,
-    pub ghost tracked: { F.made field → Tracked (F.means field) state },
 }
 
 impl<F: Field> Analyser<F> {
@@ -29,6 +29,7 @@ impl<F: Field> Analyser<F> {
     pub fn new(field: F) -> Analyser<F>
         ensures field { result.field ≡ field }
         ensures kept { kept result.state ≡ [] }
+        ensures sound { F.made field → Sound (F.means field) result.state }
     {
         Analyser {
             field,
@@ -42,7 +43,8 @@ impl<F: Field> Analyser<F> {
         ensures field { self.new.field ≡ self.old.field }
         ensures kept { kept self.new.state ≡ fed (F.means self.old.field).order (kept self.old.state) s }
         ensures same { OnErr result (self.new ≡ self.old) }
-        ensures pair { F.made self.old.field → IfOk result (λ p. (p.0 ≡ leaves (F.means self.old.field) (kept self.old.state) s) × (p.1 ≡ (steps (F.means self.old.field) (kept self.new.state)).l)) }
+        ensures sound { F.made self.old.field → Sound (F.means self.old.field) self.old.state → Sound (F.means self.old.field) self.new.state }
+        ensures pair { F.made self.old.field → Sound (F.means self.old.field) self.old.state → IfOk result (λ p. (p.0 ≡ leaves (F.means self.old.field) (kept self.old.state) s) × (p.1 ≡ (steps (F.means self.old.field) (kept self.new.state)).l)) }
     {
         if self.state.progress.taken >= MOST_DIGITS {
             return Err(Refusal::TooManyDigits);
@@ -56,12 +58,12 @@ impl<F: Field> Analyser<F> {
 
     // Takes the digit s, and answers the discrepancy there. Apart from `feed`, so that its tests are proved apart from the step.
     fn push(&mut self, s: u16) -> u16
-        requires room { self.old.state.progress.taken < 256 }
-        requires digit { s < (F.means self.old.field).order }
+        requires { self.old.state.progress.taken < 256 }
         ensures field { self.new.field ≡ self.old.field }
         ensures kept { kept self.new.state ≡ kept self.old.state ++ s ∷ [] }
-        ensures discrepancy { F.made self.old.field → result ≡ leaves (F.means self.old.field) (kept self.old.state) s }
-        ensures length { F.made self.old.field → self.new.state.progress.length ≡ (steps (F.means self.old.field) (kept self.new.state)).l }
+        ensures sound { F.made self.old.field → s < (F.means self.old.field).order → Sound (F.means self.old.field) self.old.state → Sound (F.means self.old.field) self.new.state }
+        ensures discrepancy { F.made self.old.field → Sound (F.means self.old.field) self.old.state → result ≡ leaves (F.means self.old.field) (kept self.old.state) s }
+        ensures length { F.made self.old.field → s < (F.means self.old.field).order → Sound (F.means self.old.field) self.old.state → self.new.state.progress.length ≡ (steps (F.means self.old.field) (kept self.new.state)).l }
     {
         let state = &mut self.state;
         state.digits[state.progress.taken] = s;
@@ -76,8 +78,8 @@ impl<F: Field> Analyser<F> {
 
     /// The one digit that the register gives next: fed, it would leave no discrepancy.
     pub fn expect(&self) -> u16
-        ensures value { F.made self.now.field → result ≡ expected_after (F.means self.now.field) (kept self.now.state) }
-        ensures expected { F.made self.now.field → Expected (F.means self.now.field) (kept self.now.state) result }
+        ensures value { Sound (F.means self.now.field) self.now.state → result ≡ expected_after (F.means self.now.field) (kept self.now.state) }
+        ensures expected { Sound (F.means self.now.field) self.now.state → Expected (F.means self.now.field) (kept self.now.state) result }
     {
         self.steps_known();
         self.field.negate(self.state.feedback(&self.field))
@@ -85,10 +87,10 @@ impl<F: Field> Analyser<F> {
 
     /// Writes the taps of the register into the first cells.
     pub fn show(&self, cells: &mut [u16]) -> Result<Shown, Refusal>
-        ensures refused { F.made self.now.field → refusal_of result ≡ room_refusal (steps (F.means self.now.field) (kept self.now.state)).l (length cells.old) }
+        ensures refused { Sound (F.means self.now.field) self.now.state → refusal_of result ≡ room_refusal (steps (F.means self.now.field) (kept self.now.state)).l (length cells.old) }
         ensures same { OnErr result (cells.new ≡ cells.old) }
-        ensures shown { F.made self.now.field → IfOk result (λ t. ShownOf (F.means self.now.field) (kept self.now.state) t × (cells.new ≡ overwritten (register_of (steps (F.means self.now.field) (kept self.now.state))) cells.old)) }
-        ensures promised { F.made self.now.field → Promised (F.means self.now.field) (kept self.now.state) (register_of (steps (F.means self.now.field) (kept self.now.state))) (steps (F.means self.now.field) (kept self.now.state)).count }
+        ensures shown { Sound (F.means self.now.field) self.now.state → IfOk result (λ t. ShownOf (F.means self.now.field) (kept self.now.state) t × (cells.new ≡ overwritten (register_of (steps (F.means self.now.field) (kept self.now.state))) cells.old)) }
+        ensures promised { Sound (F.means self.now.field) self.now.state → Promised (F.means self.now.field) (kept self.now.state) (register_of (steps (F.means self.now.field) (kept self.now.state))) (steps (F.means self.now.field) (kept self.now.state)).count }
     {
         self.steps_known();
         if cells.len() < self.state.progress.length {
@@ -104,10 +106,10 @@ impl<F: Field> Analyser<F> {
 
     /// Writes the taps of another register of the same length, if there is one, and answers the first that differs.
     pub fn other(&self, cells: &mut [u16]) -> Result<Option<usize>, Refusal>
-        ensures refused { F.made self.now.field → refusal_of result ≡ room_refusal (other_taps_of (F.means self.now.field) (kept self.now.state)) (length cells.old) }
+        ensures refused { Sound (F.means self.now.field) self.now.state → refusal_of result ≡ room_refusal (other_taps_of (F.means self.now.field) (kept self.now.state)) (length cells.old) }
         ensures same { MatchResult result (λ o. IfNone o (cells.new ≡ cells.old)) (λ _. cells.new ≡ cells.old) }
-        ensures other { F.made self.now.field → IfOk result (λ o. (o ≡ other_answer (F.means self.now.field) (kept self.now.state)) × OtherWritten (F.means self.now.field) (kept self.now.state) cells.old cells.new o) }
-        ensures rival { F.made self.now.field → IfOk result (λ o. IfSome o (λ j. Rival (F.means self.now.field) (kept self.now.state) (register_of (steps (F.means self.now.field) (kept self.now.state))) j (other_of (F.means self.now.field) (steps (F.means self.now.field) (kept self.now.state))))) }
+        ensures other { Sound (F.means self.now.field) self.now.state → IfOk result (λ o. (o ≡ other_answer (F.means self.now.field) (kept self.now.state)) × OtherWritten (F.means self.now.field) (kept self.now.state) cells.old cells.new o) }
+        ensures rival { Sound (F.means self.now.field) self.now.state → IfOk result (λ o. IfSome o (λ j. Rival (F.means self.now.field) (kept self.now.state) (register_of (steps (F.means self.now.field) (kept self.now.state))) j (other_of (F.means self.now.field) (steps (F.means self.now.field) (kept self.now.state))))) }
     {
         self.steps_known();
         if self.state.is_only() {
@@ -122,7 +124,7 @@ impl<F: Field> Analyser<F> {
 
     // How many cells `other` writes.
     pub(crate) fn other_taps(&self) -> usize
-        ensures { F.made self.now.field → result ≡ other_taps_of (F.means self.now.field) (kept self.now.state) }
+        ensures { Sound (F.means self.now.field) self.now.state → result ≡ other_taps_of (F.means self.now.field) (kept self.now.state) }
     {
         self.steps_known();
         if self.state.is_only() {
@@ -134,7 +136,7 @@ impl<F: Field> Analyser<F> {
 
     // A caller knows from the call on what the cells say of the steps over the digits kept, and what holds of these.
     fn steps_known(&self)
-        ensures { F.made self.now.field → Known (F.means self.now.field) self.now.state }
+        ensures { Sound (F.means self.now.field) self.now.state → Known (F.means self.now.field) self.now.state }
     {}
 
     /// Keeps the first t digits alone: runs the steps again over these.
@@ -143,6 +145,7 @@ impl<F: Field> Analyser<F> {
         ensures field { self.new.field ≡ self.old.field }
         ensures kept { kept self.new.state ≡ trimmed (kept self.old.state) t }
         ensures same { OnErr result (self.new ≡ self.old) }
+        ensures sound { F.made self.old.field → Sound (F.means self.old.field) self.old.state → Sound (F.means self.old.field) self.new.state }
     {
         if t > self.state.progress.taken {
             return Err(Refusal::PastTheDigits);

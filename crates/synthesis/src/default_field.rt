@@ -1,6 +1,5 @@
 // The field of an analyser made with no named field.
 ghost use Rattle.std.specs.Prelude.{◌≡◌, []};
-ghost use Rattle.field.specs.Laws.{FieldLaws};
 ghost use Rattle.residues.specs.contracts.arithmetic.ResiduesField.TheImpl.{ghosts as as_field};
 ghost use Rattle.synthesis.specs.Kept.{kept, the_default_field};
 ghost use Rattle.synthesis.specs.Sound.{Sound};
@@ -20,8 +19,7 @@ impl Analyser<Residues> {
 }
 
 fn default_field() -> Residues
-    ensures field { as_field.means result ≡ the_default_field }
-    ensures laws { FieldLaws the_default_field }
+    ensures { as_field.means result ≡ the_default_field }
 {
     Residues::new(2).unwrap()
 }

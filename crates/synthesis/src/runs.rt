@@ -4,6 +4,7 @@ ghost use Rattle.field.specs.Meaning.{Meaning};
 ghost use Rattle.field.specs.Refusals.{refusal_of};
 ghost use Rattle.synthesis.specs.Kept.{kept};
 ghost use Rattle.synthesis.specs.Runs.{called, performed, run_refusal, FoundOr};
+ghost use Rattle.synthesis.specs.Sound.{Sound};
 
 use crate::analyser::Analyser;
 use crate::call::Call;
@@ -16,6 +17,7 @@ impl<F: Field> Analyser<F> {
     fn make(&mut self, call: Call, cells: &mut [u16])
         ensures field { self.new.field ≡ self.old.field }
         ensures kept { kept self.new.state ≡ called (F.means self.old.field).order (kept self.old.state) call }
+        ensures sound { F.made self.old.field → Sound (F.means self.old.field) self.old.state → Sound (F.means self.old.field) self.new.state }
     {
         match call {
             Call::Feed(s) => {
@@ -39,6 +41,7 @@ impl<F: Field> Analyser<F> {
     fn perform(&mut self, calls: &[Call], cells: &mut [u16])
         ensures field { self.new.field ≡ self.old.field }
         ensures kept { kept self.new.state ≡ performed (F.means self.old.field).order (kept self.old.state) calls.now }
+        ensures sound { F.made self.old.field → Sound (F.means self.old.field) self.old.state → Sound (F.means self.old.field) self.new.state }
     {
         for call in calls {
             self.make(*call, cells);
@@ -46,8 +49,8 @@ impl<F: Field> Analyser<F> {
     }
 
     fn report(&self, cells: &mut [u16], others: &mut [u16]) -> Result<Report, Refusal>
-        ensures refused { F.made self.now.field → refusal_of result ≡ run_refusal (F.means self.now.field) (kept self.now.state) (length cells.old) (length others.old) }
-        ensures found { F.made self.now.field → FoundOr (F.means self.now.field) (kept self.now.state) cells.old cells.new others.old others.new result }
+        ensures refused { Sound (F.means self.now.field) self.now.state → refusal_of result ≡ run_refusal (F.means self.now.field) (kept self.now.state) (length cells.old) (length others.old) }
+        ensures found { Sound (F.means self.now.field) self.now.state → FoundOr (F.means self.now.field) (kept self.now.state) cells.old cells.new others.old others.new result }
     {
         // tested first, since a refusal leaves all cells as they were
         if others.len() < self.other_taps() {

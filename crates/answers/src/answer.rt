@@ -1,5 +1,5 @@
 // The answers to the tasks of a sheet.
-ghost use Rattle.std.specs.Prelude.{◌≡◌, ◌<◌, [], ◌∷◌, ◌++◌, length};
+ghost use Rattle.std.specs.Prelude.{◌≡◌, ◌<◌, ◌≤◌, [], ◌∷◌, ◌++◌, length};
 
 use field::Refusal;
 use marking::Mark;
@@ -48,7 +48,8 @@ impl Answers {
     }
 
     pub fn as_slice(&self) -> &[Answer]
-        ensures { result.now ≡ self.now }
+        ensures value { result.now ≡ self.now }
+        ensures fits { length result.now ≤ 32 }
     {
         &self.cells[..self.count]
     }

@@ -6,7 +6,7 @@ ghost use Rattle.answers.specs.Answers.{GoodSheet, FaultySheet, SheetAnswered, O
 use crate::answer::Answers;
 use crate::fields::answer_task;
 use faults::faults_are_exact;
-use sheet::{Fault, Places, Reader, SheetFault};
+use sheet::{Fault, Places, Reader, SheetFault, Task};
 use synthesis::MOST_DIGITS;
 
 // The cells that marking needs at most.
@@ -18,9 +18,10 @@ fn answer_tasks(sheet: &[u8]) -> Result<Answers, SheetFault>
 {
     let mut reader = Reader::open(sheet);
     let mut places = Places::new();
+    let mut task = Task::new();
     let mut scratch = [0; SCRATCH];
     let mut answers = Answers::new();
-    while let Some(task) = reader.next_task(&mut places)? {
+    while reader.read_task(&mut places, &mut task)? {
         answers.push(answer_task(&task, &mut scratch));
     }
     Ok(answers)

@@ -1,4 +1,7 @@
 // A task of the sheet.
+ghost use Rattle.std.specs.Prelude.{◌≡◌};
+ghost use Rattle.sheet.specs.Views.{entry_of, empty_entry};
+
 use crate::names::FieldName;
 use arrayvec::ArrayVec;
 
@@ -15,4 +18,28 @@ pub struct Task {
     pub field: FieldName,
     pub digits: Numbers,
     pub claim: Numbers,
+}
+
+impl Task {
+    /// A task with no numbers, to be read into.
+    pub fn new() -> Task
+        ensures { entry_of result ≡ empty_entry }
+    {
+        Task {
+            byte: 0,
+            field: FieldName::default(),
+            digits: Numbers::new(),
+            claim: Numbers::new(),
+        }
+    }
+
+    // Holds no numbers again, as one that is new.
+    pub(crate) fn reset(&mut self)
+        ensures { entry_of self.new ≡ empty_entry }
+    {
+        self.byte = 0;
+        self.field = FieldName::default();
+        self.digits.clear();
+        self.claim.clear();
+    }
 }

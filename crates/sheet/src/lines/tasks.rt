@@ -62,19 +62,18 @@ impl<'a> Lines<'a> {
         }
     }
 
-    // The task that the line begins.
-    pub(crate) fn task(&mut self, first: Line<'a>, places: &Places) -> Result<Task, SheetFault>
-        ensures { MatchResult result (λ t. TaskRead first.entry self.old (noted places.now) (entry_of t) self.new)
+    // Reads the task that the line begins into the one handed in, whose lists lie there already.
+    pub(crate) fn task(
+        &mut self,
+        first: Line<'a>,
+        places: &Places,
+        task: &mut Task,
+    ) -> Result<(), SheetFault>
+        ensures { MatchResult result (λ _. TaskRead first.entry self.old (noted places.now) (entry_of task.new) self.new)
             (λ e. TaskFails first.entry self.old (noted places.now) e) }
     {
-        let mut task = Task {
-            byte: first.at.byte,
-            field: FieldName::default(),
-            digits: Numbers::new(),
-            claim: Numbers::new(),
-        };
+        task.byte = first.at.byte;
         task.field = self.opening(first, places, &mut task.digits)?;
-        self.numbers_due(Keyword::Claim, &mut task.claim)?;
-        Ok(task)
+        self.numbers_due(Keyword::Claim, &mut task.claim)
     }
 }
